@@ -1,2 +1,4 @@
 pub mod Steps
 pub mod Walked
+pub mod Same
+pub mod Whole

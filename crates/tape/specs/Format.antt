@@ -61,16 +61,16 @@ abbrev pub HeldAt : Option ℕ → Bool → List ℕ → Type 0
 HeldAt (Some size) lost bs = length bs ≡ size
 HeldAt None lost bs = (lost ≡ false) × (length bs < 2 ^ 32)
 
-abbrev pub FieldAt : Column → Field → Type 0
-FieldAt c null = Unit {0}
-FieldAt c (held lost bs) = HeldAt (size-of (c .code)) lost bs
+abbrev pub FieldAt : ℕ → Field → Type 0
+FieldAt code null = Unit {0}
+FieldAt code (held lost bs) = HeldAt (size-of code) lost bs
 
 -- a row has one field for each column
 abbrev pub RowOf : List Column → List Field → Type 0
 RowOf [] [] = Unit {0}
 RowOf [] (f ∷ fs) = ⊥
 RowOf (c ∷ cs) [] = ⊥
-RowOf (c ∷ cs) (f ∷ fs) = FieldAt c f × RowOf cs fs
+RowOf (c ∷ cs) (f ∷ fs) = FieldAt (c .code) f × RowOf cs fs
 
 -- a failure has a number from 1 to 65,535
 abbrev pub EventOf : List Column → Event → Type 0
