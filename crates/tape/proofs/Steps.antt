@@ -2,8 +2,9 @@
 -- Assumes nothing.
 use mathlib.Core.Path.{_≡_, refl, ap, subst}
 use mathlib.Core.Bool.{Bool, true, false}
-use mathlib.Core.List.{List}
-use Prim.Native.Nat.{ℕ}
+use mathlib.Core.List.{List, _∷_}
+use Prim.Native.Nat.{ℕ, _<_}
+use lib.ListN.{length}
 use native.Mathlib.Omega.{arith}
 use Rattle.tape.specs.Decode.{Taken, taken, broken, next, given}
 
@@ -33,3 +34,7 @@ next-split broken k y s e = never y s e
 -- what holds of one taking holds of an equal one
 pub moved : {X : Type 0} (P : X → List ℕ → Type 0) {x y : X} {r s : List ℕ} → taken x r ≡ taken y s → P x r → P y s
 moved P {x} {y} {r} {s} e p = let a : x ≡ y = cc in let b : r ≡ s = cc in subst (λ z. P y z) b (subst (λ z. P z r) a p)
+
+-- a list is shorter once its first is gone
+pub shorter : {Y : Type 0} {xs : List Y} (ys : List Y) (y : Y) → xs ≡ y ∷ ys → length ys < length xs
+shorter ys y e = omega (arith, ap length e)

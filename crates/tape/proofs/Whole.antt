@@ -2,16 +2,16 @@
 -- Assumes nothing.
 use mathlib.Core.Path.{_≡_, refl, sym, ap, _∙_}
 use mathlib.Core.List.{List, [], _∷_}
-use Prim.Native.Nat.{ℕ, zero, suc, _+_, _*_, _≤_, _<_}
+use Prim.Native.Nat.{ℕ, zero, suc, _+_, _-_, _*_, _≤_, _<_}
 use native.Mathlib.Omega.{arith}
 use lib.Dec.{leb}
 use lib.ListN.{length, take, drop}
 use Rattle.std.proofs.shelf.Tests.{le-leb, lt-leb}
 use Rattle.std.specs.declared.option.Option.the-variants.{Some, None}
 use Rattle.mysql.specs.declared.bind.Column.{Column}
-use Rattle.tape.specs.Format.{Event, Contents}
-use Rattle.tape.specs.Decode.{Taken, taken, broken, next, given, left, take2, take-event, take-events, take-column, take-columns, ended, take-body, take-tape}
-use Rattle.tape.specs.Views.{columns-in, events-in}
+use Rattle.tape.specs.Format.{Field, Event, Contents}
+use Rattle.tape.specs.Decode.{Taken, taken, broken, next, given, left, take2, take-field, take-event, take-events, take-column, take-columns, ended, take-body, take-tape}
+use Rattle.tape.specs.Views.{columns-in, fields-in, events-in}
 use Rattle.tape.proofs.Steps.{never, given-is, given-not, Split, next-split}
 use Rattle.tape.proofs.Walked.{left-some, left-none}
 
@@ -115,3 +115,18 @@ module _ (b : List ℕ) (w : ℕ) (r : List ℕ) (hw : take2 b ≡ taken w r) wh
             events-next ∙ ap (λ t. next t (λ es s. ended (record { columns = cs; events = es }) s)) (p .1)
             ∙ ended-here (record { columns = cs; events = p .0 }) d z
             ∙ ap (λ es. taken (record { columns = cs; events = es }) []) (sym (events-in-is cs n q (p .0) d (p .1)))
+
+-- going through events and fields
+
+pub events-first : (cs : List Column) (n : ℕ) (bs : List ℕ) (e : Event) (r : List ℕ) → (n ≡ 0 → ⊥) → take-event cs bs ≡ taken e r → events-in cs n bs ≡ e ∷ events-in cs (n - 1) r
+events-first cs zero bs e r z h = absurd (z refl)
+events-first cs (suc n) bs e r z h =
+    let k : n ≡ suc n - 1 = omega arith in
+    ap (λ t. elim t [ taken f q ↦ f ∷ events-in cs n q | broken ↦ [] ]) h ∙ ap (λ m. e ∷ events-in cs m r) k
+
+pub events-none : (cs : List Column) (n : ℕ) (bs : List ℕ) → take-event cs bs ≡ broken → events-in cs n bs ≡ []
+events-none cs zero bs h = refl
+events-none cs (suc n) bs h = ap (λ t. elim t [ taken f q ↦ f ∷ events-in cs n q | broken ↦ [] ]) h
+
+pub fields-first : (c : Column) (cs : List Column) (bs : List ℕ) (f : Field) (r : List ℕ) → take-field (c .code) bs ≡ taken f r → fields-in (c ∷ cs) bs ≡ f ∷ fields-in cs r
+fields-first c cs bs f r h = ap (λ t. elim t [ taken g q ↦ g ∷ fields-in cs q | broken ↦ [] ]) h

@@ -1,9 +1,18 @@
 // A recorded result, and how it is gone through: its columns, its events, and the fields of a row, one after the other.
 ghost use mathlib.Core.Path.{_≡_};
 ghost use Rattle.tape.specs.Decode.{take-tape};
-ghost use Rattle.tape.specs.Recordings.{whole, Opened};
+ghost use lib.ListN.{length};
+ghost use Rattle.tape.specs.Views.{field-of, row-of, event-of};
+ghost use Rattle.tape.specs.Recordings.{whole, Opened, contents, Gives, columns-left, events-left, fields-left};
+use crate::event::Event;
+use crate::event::Row;
+use crate::field::Field;
 use crate::walk::skip_events;
+use crate::walk::take_column;
+use crate::walk::take_event;
+use crate::walk::take_field;
 use crate::walk::take_u16;
+use mysql::Column;
 use mysql::Fault;
 use mysql::Refusal;
 
@@ -48,6 +57,115 @@ impl<'a> Recording<'a> {
         match read(bytes) {
             Some(recording) => Ok(recording),
             None => Err(Fault::new(Refusal::BrokenTape)),
+        }
+    }
+
+    pub fn columns(&self) -> Columns<'a>
+        ensures { λ r. ⌜ columns-left r ≡ contents (now (self .entry)) .columns ⌝ }
+    {
+        Columns { bytes: self.columns }
+    }
+
+    pub fn events(&self) -> Events<'a>
+        ensures { λ r. ⌜ events-left r ≡ contents (now (self .entry)) .events ⌝ }
+    {
+        Events { columns: self.columns, bytes: self.events, count: self.count }
+    }
+}
+
+impl<'a> Row<'a> {
+    pub fn fields(&self) -> Fields<'a>
+        ensures { λ r. ⌜ fields-left r ≡ row-of (now (self .entry)) ⌝ }
+    {
+        Fields { columns: self.columns, bytes: self.bytes }
+    }
+}
+
+// The columns that are to come.
+#[derive(Clone, Copy)]
+pub struct Columns<'a> {
+    pub(crate) bytes: &'a [u8],
+}
+
+pub impl Iterator for Columns<'_> as ColumnsIterator {
+    type Item = Column;
+
+    ghost steps = { Gives columns-left (λ c. c) };
+
+    ghost ends = { λ _. Unit {0} };
+
+    ghost left = { λ s. length (columns-left s) };
+
+    fn next(&mut self) -> Option<Column> {
+        let (column, rest) = take_column(self.bytes)?;
+        self.bytes = rest;
+        Some(column)
+    }
+}
+
+// The events that are to come.
+#[derive(Clone, Copy)]
+pub struct Events<'a> {
+    pub(crate) columns: &'a [u8],
+    pub(crate) bytes: &'a [u8],
+    pub(crate) count: u16,
+}
+
+pub impl<'a> Iterator for Events<'a> as EventsIterator {
+    type Item = Event<'a>;
+
+    ghost steps = { Gives events-left event-of };
+
+    ghost ends = { λ _. Unit {0} };
+
+    ghost left = { λ s. length (events-left s) };
+
+    fn next(&mut self) -> Option<Event<'a>> {
+        if self.count == 0 {
+            return None;
+        }
+        match take_event(self.columns, self.bytes) {
+            Some((event, rest)) => {
+                self.bytes = rest;
+                self.count -= 1;
+                Some(event)
+            }
+            None => {
+                self.count = 0;
+                None
+            }
+        }
+    }
+}
+
+// The fields of a row that are to come.
+#[derive(Clone, Copy)]
+pub struct Fields<'a> {
+    pub(crate) columns: &'a [u8],
+    pub(crate) bytes: &'a [u8],
+}
+
+pub impl<'a> Iterator for Fields<'a> as FieldsIterator {
+    type Item = Field<'a>;
+
+    ghost steps = { Gives fields-left field-of };
+
+    ghost ends = { λ _. Unit {0} };
+
+    ghost left = { λ s. length (fields-left s) };
+
+    fn next(&mut self) -> Option<Field<'a>> {
+        let (column, columns) = take_column(self.columns)?;
+        match take_field(column.code, self.bytes) {
+            Some((field, rest)) => {
+                self.columns = columns;
+                self.bytes = rest;
+                Some(field)
+            }
+            None => {
+                self.columns = &[];
+                None
+            }
         }
     }
 }
