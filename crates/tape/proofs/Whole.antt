@@ -89,32 +89,32 @@ module _ (b : List ℕ) (w : ℕ) (r : List ℕ) (hw : take2 b ≡ taken w r) wh
 
       -- the columns and the events as they are cut off
       module _ (v : ℕ) (front q : List ℕ) (e : v ≡ w) (hf : front ≡ take (v * 5) s) (hq : q ≡ drop (v * 5) s) (l : v * 5 ≤ length s) where
-        abbrev cs : List Column
-        cs = columns-in front
+        abbrev listed : List Column
+        listed = columns-in front
 
-        events-next : take-tape b ≡ body-from cs n q
+        events-next : take-tape b ≡ body-from listed n q
         events-next =
             let k : w * 5 ≤ length s = omega arith in
             counted ∙ given-is (leb w 64) _ (le-leb w 64 narrow)
-            ∙ ap (λ t. next t (λ cs q. body-from cs n q)) (columns-at w s k)
+            ∙ ap (λ t. next t (λ cs r. body-from cs n r)) (columns-at w s k)
             ∙ ap (λ x. body-from (columns-in (take (x * 5) s)) n (drop (x * 5) s)) (sym e)
-            ∙ ap (λ u. body-from (columns-in u) n (drop (v * 5) s)) (sym hf) ∙ ap (body-from cs n) (sym hq)
+            ∙ ap (λ u. body-from (columns-in u) n (drop (v * 5) s)) (sym hf) ∙ ap (body-from listed n) (sym hq)
 
-        pub events-broken : left (take-events cs n q) ≡ None → take-tape b ≡ broken
-        events-broken h = events-next ∙ ap (λ t. next t (λ es s. ended (record { columns = cs; events = es }) s)) (left-none (take-events cs n q) h)
+        pub events-broken : left (take-events listed n q) ≡ None → take-tape b ≡ broken
+        events-broken h = events-next ∙ ap (λ t. next t (λ es s. ended (record { columns = listed; events = es }) s)) (left-none (take-events listed n q) h)
 
-        pub too-long : (d : List ℕ) → left (take-events cs n q) ≡ Some d → (length d ≡ 0 → ⊥) → take-tape b ≡ broken
+        pub too-long : (d : List ℕ) → left (take-events listed n q) ≡ Some d → (length d ≡ 0 → ⊥) → take-tape b ≡ broken
         too-long d h z =
-            let p = left-some (take-events cs n q) d h in
-            events-next ∙ ap (λ t. next t (λ es s. ended (record { columns = cs; events = es }) s)) (p .1)
-            ∙ ended-over (record { columns = cs; events = p .0 }) d z
+            let p = left-some (take-events listed n q) d h in
+            events-next ∙ ap (λ t. next t (λ es s. ended (record { columns = listed; events = es }) s)) (p .1)
+            ∙ ended-over (record { columns = listed; events = p .0 }) d z
 
-        pub all-there : (d : List ℕ) → left (take-events cs n q) ≡ Some d → length d ≡ 0 → take-tape b ≡ taken (whole-of cs n q) []
+        pub all-there : (d : List ℕ) → left (take-events listed n q) ≡ Some d → length d ≡ 0 → take-tape b ≡ taken (whole-of listed n q) []
         all-there d h z =
-            let p = left-some (take-events cs n q) d h in
-            events-next ∙ ap (λ t. next t (λ es s. ended (record { columns = cs; events = es }) s)) (p .1)
-            ∙ ended-here (record { columns = cs; events = p .0 }) d z
-            ∙ ap (λ es. taken (record { columns = cs; events = es }) []) (sym (events-in-is cs n q (p .0) d (p .1)))
+            let p = left-some (take-events listed n q) d h in
+            events-next ∙ ap (λ t. next t (λ es s. ended (record { columns = listed; events = es }) s)) (p .1)
+            ∙ ended-here (record { columns = listed; events = p .0 }) d z
+            ∙ ap (λ es. taken (record { columns = listed; events = es }) []) (sym (events-in-is listed n q (p .0) d (p .1)))
 
 -- going through events and fields
 
@@ -130,3 +130,29 @@ events-none cs (suc n) bs h = ap (λ t. elim t [ taken f q ↦ f ∷ events-in c
 
 pub fields-first : (c : Column) (cs : List Column) (bs : List ℕ) (f : Field) (r : List ℕ) → take-field (c .code) bs ≡ taken f r → fields-in (c ∷ cs) bs ≡ f ∷ fields-in cs r
 fields-first c cs bs f r h = ap (λ t. elim t [ taken g q ↦ g ∷ fields-in cs q | broken ↦ [] ]) h
+
+-- no more comes than there are bytes, columns or events counted
+
+pub columns-few : (bs : List ℕ) → length (columns-in bs) ≤ length bs
+columns-few [] = omega arith
+columns-few (a ∷ []) = omega arith
+columns-few (a ∷ b ∷ []) = omega arith
+columns-few (a ∷ b ∷ c ∷ []) = omega arith
+columns-few (a ∷ b ∷ c ∷ d ∷ []) = omega arith
+columns-few (a ∷ b ∷ c ∷ d ∷ e ∷ r) = let h = columns-few r in omega arith
+
+fields-after : (cs : List Column) (t : Taken Field) → ((r : List ℕ) → length (fields-in cs r) ≤ length cs) → length {A = Field} (elim t [ taken f r ↦ f ∷ fields-in cs r | broken ↦ [] ]) ≤ length cs + 1
+fields-after cs (taken f r) h = let k = h r in omega arith
+fields-after cs broken h = omega arith
+
+pub fields-few : (cs : List Column) (bs : List ℕ) → length (fields-in cs bs) ≤ length cs
+fields-few [] bs = omega arith
+fields-few (c ∷ cs) bs = let h = fields-after cs (take-field (c .code) bs) (λ r. fields-few cs r) in omega arith
+
+events-after : (cs : List Column) (n : ℕ) (t : Taken Event) → ((r : List ℕ) → length (events-in cs n r) ≤ n) → length {A = Event} (elim t [ taken e r ↦ e ∷ events-in cs n r | broken ↦ [] ]) ≤ n + 1
+events-after cs n (taken e r) h = let k = h r in omega arith
+events-after cs n broken h = omega arith
+
+pub events-few : (cs : List Column) (n : ℕ) (bs : List ℕ) → length (events-in cs n bs) ≤ n
+events-few cs zero bs = omega arith
+events-few cs (suc n) bs = let h = events-after cs n (take-event cs bs) (λ r. events-few cs n r) in omega arith

@@ -1,6 +1,7 @@
 // A recorded result, and how it is gone through: its columns, its events, and the fields of a row, one after the other.
 ghost use mathlib.Core.Path.{_≡_};
 ghost use Rattle.tape.specs.Decode.{take-tape};
+ghost use Prim.Native.Nat.{_^_, _<_};
 ghost use lib.ListN.{length};
 ghost use Rattle.tape.specs.Views.{field-of, row-of, event-of};
 ghost use Rattle.tape.specs.Recordings.{whole, Opened, contents, Gives, columns-left, events-left, fields-left};
@@ -60,22 +61,28 @@ impl<'a> Recording<'a> {
         }
     }
 
+    // Its columns, one after the other.
     pub fn columns(&self) -> Columns<'a>
-        ensures { λ r. ⌜ columns-left r ≡ contents (now (self .entry)) .columns ⌝ }
+        ensures all { λ r. ⌜ columns-left r ≡ contents (now (self .entry)) .columns ⌝ }
+        ensures few { λ r. ⌜ length (columns-left r) < 2 ^ 64 ⌝ }
     {
         Columns { bytes: self.columns }
     }
 
+    // Its events, one after the other.
     pub fn events(&self) -> Events<'a>
-        ensures { λ r. ⌜ events-left r ≡ contents (now (self .entry)) .events ⌝ }
+        ensures all { λ r. ⌜ events-left r ≡ contents (now (self .entry)) .events ⌝ }
+        ensures few { λ r. ⌜ length (events-left r) < 65536 ⌝ }
     {
         Events { columns: self.columns, bytes: self.events, count: self.count }
     }
 }
 
 impl<'a> Row<'a> {
+    // Its fields, one after the other.
     pub fn fields(&self) -> Fields<'a>
-        ensures { λ r. ⌜ fields-left r ≡ row-of (now (self .entry)) ⌝ }
+        ensures all { λ r. ⌜ fields-left r ≡ row-of (now (self .entry)) ⌝ }
+        ensures few { λ r. ⌜ length (fields-left r) < 2 ^ 64 ⌝ }
     {
         Fields { columns: self.columns, bytes: self.bytes }
     }

@@ -1,0 +1,97 @@
+// A tape in words.
+use mysql::Column;
+use mysql::DatabaseErrorKindDebug;
+use mysql::MysqlType;
+use mysql::MysqlTypeDebug;
+use mysql::TypeFromPair;
+use mysql::last_error_type;
+use std::fmt;
+use std::fmt::Write;
+use tape::ColumnsIterator;
+use tape::Event;
+use tape::EventsIterator;
+use tape::Field;
+use tape::FieldsIterator;
+use tape::Recording;
+use tape::Row;
+
+// A recording's columns and events, a line each, with a line for each field of a row.
+pub fn show_recording(out: &mut String, recording: &Recording) -> fmt::Result {
+    let width = recording.columns().count();
+    let count = recording.events().count();
+    writeln!(out, "{width} columns, {count} events")?;
+    for (i, column) in recording.columns().enumerate() {
+        show_column(out, i, column)?;
+    }
+    for (i, event) in recording.events().enumerate() {
+        show_event(out, i, event)?;
+    }
+    Ok(())
+}
+
+fn show_column(out: &mut String, i: usize, column: Column) -> fmt::Result {
+    let code = column.code;
+    let flags = column.flags;
+    write!(out, "  column {i}: code {code}, flags 0x{flags:08x}, ")?;
+    match MysqlType::try_from((code, flags)) {
+        Ok(tpe) => writeln!(out, "{tpe:?}"),
+        Err(_) => writeln!(out, "no type"),
+    }
+}
+
+// Events are counted from 1, as rows are.
+fn show_event(out: &mut String, i: usize, event: Event) -> fmt::Result {
+    let place = i.saturating_add(1);
+    match event {
+        Event::Row(row) => {
+            writeln!(out, "  event {place}: row")?;
+            show_row(out, row)
+        }
+        Event::Failure(number) => {
+            let kind = last_error_type(number);
+            writeln!(out, "  event {place}: failure {number} ({kind:?})")
+        }
+    }
+}
+
+fn show_row(out: &mut String, row: Row) -> fmt::Result {
+    for (i, field) in row.fields().enumerate() {
+        write!(out, "    {i}: ")?;
+        show_field(out, field)?;
+    }
+    Ok(())
+}
+
+fn show_field(out: &mut String, field: Field) -> fmt::Result {
+    match field {
+        Field::Null => writeln!(out, "null"),
+        Field::Held { bytes, lost } => {
+            let length = bytes.len();
+            let mark = if lost { ", a figure lost" } else { "" };
+            write!(out, "{length} bytes{mark}: ")?;
+            show_bytes(out, bytes)
+        }
+    }
+}
+
+// Text between quotes where the bytes are printable, else each byte in hexadecimal.
+fn show_bytes(out: &mut String, bytes: &[u8]) -> fmt::Result {
+    if let Ok(text) = std::str::from_utf8(bytes) {
+        if is_printable(text) {
+            return writeln!(out, "\"{text}\"");
+        }
+    }
+    for byte in bytes {
+        write!(out, "{byte:02x}")?;
+    }
+    writeln!(out, "")
+}
+
+fn is_printable(text: &str) -> bool {
+    for c in text.chars() {
+        if c < ' ' || ('\u{7f}'..='\u{9f}').contains(&c) {
+            return false;
+        }
+    }
+    true
+}
