@@ -123,7 +123,8 @@ impl Fault {
     pub fn refusal(self) -> Refusal
         ensures { λ r. ⌜ r ≡ self .refusal ⌝ }
     {
-        self.refusal
+        let Fault { refusal, .. } = self;
+        refusal
     }
 
     pub fn number(self) -> u8

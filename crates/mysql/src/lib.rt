@@ -5,7 +5,6 @@ mod fault;
 mod ffi;
 mod kept;
 mod result;
-mod words;
 
 pub use backend::MysqlType;
 pub use backend::MysqlTypeDebug;
@@ -36,6 +35,3 @@ pub use kept::kept_pairs;
 pub use result::DatabaseErrorKind;
 pub use result::DatabaseErrorKindDebug;
 pub use result::DatabaseErrorKindPartialEq;
-pub use words::FaultDisplay;
-pub use words::LayerDisplay;
-pub use words::RefusalDisplay;

@@ -1,12 +1,13 @@
 // Shows what tapes hold: `show FILE..` prints the columns and the events of each.
 mod print;
 
-use mysql::FaultDisplay;
 use print::show_recording;
 use std::env;
 use std::error::AnyError;
 use std::fs;
 use tape::Recording;
+use words::InWords;
+use words::InWordsDisplay;
 
 // Prints what a file holds, or why it is no tape, and says whether it is one.
 fn show_file(rt: &LibcRuntime, name: &str) -> Result<bool, AnyError> {
@@ -25,6 +26,7 @@ fn show_file(rt: &LibcRuntime, name: &str) -> Result<bool, AnyError> {
             Ok(true)
         }
         Err(fault) => {
+            let fault = InWords(fault);
             eprintln!(rt, "{name}: {fault}")?;
             Ok(false)
         }

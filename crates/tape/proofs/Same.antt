@@ -154,9 +154,10 @@ held-sound code lost bs f r h e =
     let l : n ≤ length q = leb-true n (length q) (w .0) in
     let long : length (take n q) ≡ n = simp length-take (omega arith) in
     let P : Field → List ℕ → Type 0 = λ g u. (FieldAt code g) × (field-bytes g ++ u ≡ tag lost ∷ bs) in
-    moved P (w .1)
-      (fits-sound (size-of code) lost n (take n q) long (s .0) (z .0),
-       ap (λ k. tag lost ∷ (four k ++ (take n q ++ drop n q))) long ∙ ap (λ u. tag lost ∷ (four n ++ u)) (take-append-drop n q) ∙ ap (λ u. tag lost ∷ u) (s .1))
+    moved P (w .1) (
+      fits-sound (size-of code) lost n (take n q) long (s .0) (z .0),
+      ap (λ k. tag lost ∷ (four k ++ (take n q ++ drop n q))) long ∙ ap (λ u. tag lost ∷ (four n ++ u)) (take-append-drop n q) ∙ ap (λ u. tag lost ∷ u) (s .1),
+    )
 
 by-cond : {X : Type 0} (P : Taken X → Type 0) (b : Bool) (x y : Taken X) → (b ≡ true → P x) → (b ≡ false → P y) → P (cond b x y)
 by-cond P true x y f g = f refl
@@ -168,13 +169,13 @@ field-sound code (t ∷ bs) f r h e =
     let Q : Taken Field → Type 0 = λ x. x ≡ taken f r → (FieldAt code f) × (field-bytes f ++ r ≡ t ∷ bs) in
     let P : Field → List ℕ → Type 0 = λ g u. (FieldAt code g) × (field-bytes g ++ u ≡ t ∷ bs) in
     by-cond Q (eqb t 0) _ _
-      (λ z k. moved P k (tt, ap (λ u. u ∷ bs) (sym (eqb-true t 0 z))))
-      (λ z0. by-cond Q (eqb t 1) _ _
-        (λ z k. let s = held-sound code false bs f r (h .1) k in (s .0, s .1 ∙ ap (λ u. u ∷ bs) (sym (eqb-true t 1 z))))
-        (λ z1. by-cond Q (eqb t 2) _ _
-          (λ z k. let s = held-sound code true bs f r (h .1) k in (s .0, s .1 ∙ ap (λ u. u ∷ bs) (sym (eqb-true t 2 z))))
-          (λ z2 k. never f r k)))
-      e
+    (λ z k. moved P k (tt, ap (λ u. u ∷ bs) (sym (eqb-true t 0 z))))
+    (λ z0. by-cond Q (eqb t 1) _ _
+    (λ z k. let s = held-sound code false bs f r (h .1) k in (s .0, s .1 ∙ ap (λ u. u ∷ bs) (sym (eqb-true t 1 z))))
+    (λ z1. by-cond Q (eqb t 2) _ _
+    (λ z k. let s = held-sound code true bs f r (h .1) k in (s .0, s .1 ∙ ap (λ u. u ∷ bs) (sym (eqb-true t 2 z))))
+    (λ z2 k. never f r k)))
+    e
 
 fields-sound : (cs : List Column) (bs : List ℕ) (fs : List Field) (r : List ℕ) → Bytes bs → take-fields cs bs ≡ taken fs r → (RowOf cs fs) × (joined field-bytes fs ++ r ≡ bs)
 fields-sound [] bs fs r h e = let P : List Field → List ℕ → Type 0 = λ g u. (RowOf [] g) × (joined field-bytes g ++ u ≡ bs) in moved P e (tt, refl)
@@ -192,19 +193,19 @@ event-sound cs (t ∷ bs) e r h k =
     let Q : Taken Event → Type 0 = λ x. x ≡ taken e r → (EventOf cs e) × (event-bytes e ++ r ≡ t ∷ bs) in
     let P : Event → List ℕ → Type 0 = λ g u. (EventOf cs g) × (event-bytes g ++ u ≡ t ∷ bs) in
     by-cond Q (eqb t 0) _ _
-      (λ z j.
-        let x = next-split (take-fields cs bs) (λ fs q. taken (row fs) q) e r j in
-        let s = fields-sound cs bs (x .first) (x .rest) (h .1) (x .was) in
-        moved P (x .then) (s .0, ap (λ u. 0 ∷ u) (s .1) ∙ ap (λ u. u ∷ bs) (sym (eqb-true t 0 z))))
-      (λ z0. by-cond Q (eqb t 1) _ _
-        (λ z j.
-          let x = next-split (take2 bs) (λ n q. given (not (eqb n 0)) (taken (failure n) q)) e r j in
-          let w = given-split (not (eqb (x .first) 0)) (taken (failure (x .first)) (x .rest)) e r (x .then) in
-          let s = two-sound bs (x .first) (x .rest) (h .1) (x .was) in
-          let l : x .first ≡ 0 → ⊥ = eqb-false (x .first) 0 (not-true (eqb (x .first) 0) (w .0)) in
-          moved P (w .1) ((omega arith, omega (arith, s .0)), ap (λ u. 1 ∷ u) (s .1) ∙ ap (λ u. u ∷ bs) (sym (eqb-true t 1 z))))
-        (λ z1 j. never e r j))
-      k
+    (λ z j.
+    let x = next-split (take-fields cs bs) (λ fs q. taken (row fs) q) e r j in
+    let s = fields-sound cs bs (x .first) (x .rest) (h .1) (x .was) in
+    moved P (x .then) (s .0, ap (λ u. 0 ∷ u) (s .1) ∙ ap (λ u. u ∷ bs) (sym (eqb-true t 0 z))))
+    (λ z0. by-cond Q (eqb t 1) _ _
+    (λ z j.
+    let x = next-split (take2 bs) (λ n q. given (not (eqb n 0)) (taken (failure n) q)) e r j in
+    let w = given-split (not (eqb (x .first) 0)) (taken (failure (x .first)) (x .rest)) e r (x .then) in
+    let s = two-sound bs (x .first) (x .rest) (h .1) (x .was) in
+    let l : x .first ≡ 0 → ⊥ = eqb-false (x .first) 0 (not-true (eqb (x .first) 0) (w .0)) in
+    moved P (w .1) ((omega arith, omega (arith, s .0)), ap (λ u. 1 ∷ u) (s .1) ∙ ap (λ u. u ∷ bs) (sym (eqb-true t 1 z))))
+    (λ z1 j. never e r j))
+    k
 
 events-sound : (cs : List Column) (n : ℕ) (bs : List ℕ) (es : List Event) (r : List ℕ) → Bytes bs → take-events cs n bs ≡ taken es r → (All (EventOf cs) es) × (joined event-bytes es ++ r ≡ bs) × (length es ≡ n)
 events-sound cs zero bs es r h e = let P : List Event → List ℕ → Type 0 = λ g u. (All (EventOf cs) g) × (joined event-bytes g ++ u ≡ bs) × (length g ≡ 0) in moved P e (tt, refl, refl)
@@ -261,12 +262,12 @@ tape-sound bytes t r h e =
     let all : joined event-bytes es ≡ z .rest = sym (append-nil (joined event-bytes es)) ∙ ap (λ u. joined event-bytes es ++ u) (sym (d .0)) ∙ sv .1 in
     subst (TapeOf bytes) (d .1) (record {
       bytes-are =
-        ap (λ k. two k ++ (two (length es) ++ (joined column-bytes cs ++ joined event-bytes es))) (sz .2)
-        ∙ ap (λ k. two w ++ (two k ++ (joined column-bytes cs ++ joined event-bytes es))) (sv .2)
-        ∙ ap (λ u. two w ++ (two n ++ (joined column-bytes cs ++ u))) all
-        ∙ ap (λ u. two w ++ (two n ++ u)) (sz .1)
-        ∙ ap (λ u. two w ++ u) (sy .1)
-        ∙ sx .1;
+          ap (λ k. two k ++ (two (length es) ++ (joined column-bytes cs ++ joined event-bytes es))) (sz .2)
+          ∙ ap (λ k. two w ++ (two k ++ (joined column-bytes cs ++ joined event-bytes es))) (sv .2)
+          ∙ ap (λ u. two w ++ (two n ++ (joined column-bytes cs ++ u))) all
+          ∙ ap (λ u. two w ++ (two n ++ u)) (sz .1)
+          ∙ ap (λ u. two w ++ u) (sy .1)
+          ∙ sx .1;
       narrow = omega (arith, sz .2);
       few = omega (arith, sy .0, sv .2);
       columns-fit = sz .0;

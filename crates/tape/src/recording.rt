@@ -47,7 +47,11 @@ fn read(bytes: &[u8]) -> Option<Recording<'_>>
     if !end.is_empty() {
         return None;
     }
-    Some(Recording { columns, events, count })
+    Some(Recording {
+        columns,
+        events,
+        count,
+    })
 }
 
 impl<'a> Recording<'a> {
@@ -66,7 +70,9 @@ impl<'a> Recording<'a> {
         ensures all { λ r. ⌜ columns-left r ≡ contents (now (self .entry)) .columns ⌝ }
         ensures few { λ r. ⌜ length (columns-left r) < 2 ^ 64 ⌝ }
     {
-        Columns { bytes: self.columns }
+        Columns {
+            bytes: self.columns,
+        }
     }
 
     // Its events, one after the other.
@@ -74,7 +80,11 @@ impl<'a> Recording<'a> {
         ensures all { λ r. ⌜ events-left r ≡ contents (now (self .entry)) .events ⌝ }
         ensures few { λ r. ⌜ length (events-left r) < 65536 ⌝ }
     {
-        Events { columns: self.columns, bytes: self.events, count: self.count }
+        Events {
+            columns: self.columns,
+            bytes: self.events,
+            count: self.count,
+        }
     }
 }
 
@@ -84,7 +94,10 @@ impl<'a> Row<'a> {
         ensures all { λ r. ⌜ fields-left r ≡ row-of (now (self .entry)) ⌝ }
         ensures few { λ r. ⌜ length (fields-left r) < 2 ^ 64 ⌝ }
     {
-        Fields { columns: self.columns, bytes: self.bytes }
+        Fields {
+            columns: self.columns,
+            bytes: self.bytes,
+        }
     }
 }
 

@@ -94,7 +94,13 @@ pub fn take_event<'a>(columns: &'a [u8], bytes: &'a [u8]) -> Option<(Event<'a>, 
     match bytes {
         [0, fields @ ..] => {
             let rest = skip_fields(columns, fields)?;
-            Some((Event::Row(Row { columns, bytes: fields }), rest))
+            Some((
+                Event::Row(Row {
+                    columns,
+                    bytes: fields,
+                }),
+                rest,
+            ))
         }
         [1, number @ ..] => {
             let (number, rest) = take_u16(number)?;

@@ -14,6 +14,7 @@ returns-in-Some c =
     tape-sound b (contents (c .in-Some .recording)) [] (all-from-getD (λ x. x < 256) b 0 (λ i l. c .typed .bytes i .fits)) (c .in-Some .ensures tt)
 
 pub returns-in-None : need.returns-in-None
-returns-in-None c =
-    (c .new .ensures,
-     λ t h. let k = tape-back (c .args .bytes .now) t h in let e = c .in-None .ensures tt in let z : _≡_ {A = ℕ} 0 1 = cc in omega arith)
+returns-in-None c = (
+  c .new .ensures,
+  λ t h. let k = tape-back (c .args .bytes .now) t h in let e = c .in-None .ensures tt in let z : _≡_ {A = ℕ} 0 1 = cc in omega arith,
+)
