@@ -1,0 +1,4 @@
+pub mod Bytes
+pub mod Floats
+pub mod Utf8
+pub mod Decimals
