@@ -1,19 +1,24 @@
 -- What is left to read of a number's text at a byte, with n read so far.
 -- Assumes nothing.
-use mathlib.Core.Path.{_≡_, refl, sym, ap, _∙_}
+use mathlib.Core.Path.{_≡_, refl, sym, ap, subst, _∙_}
 use mathlib.Core.Bool.{Bool, true, false, cond, _&&_}
 use mathlib.Core.List.{List, [], _∷_}
 use mathlib.Core.Logic.{_⊎_, inl, inr}
-use Prim.Native.Nat.{ℕ, _+_, _-_, _*_, _<_, _≤_}
+use Prim.Native.Nat.{ℕ, zero, suc, _+_, _-_, _*_, _<_, _≤_}
 use native.Mathlib.Omega.{arith}
 use lib.ListN.{length, take, drop, getD}
-use lib.Dec.{leb, eqb}
+use lib.Dec.{leb, ltb, eqb}
+use lib.IntN.{ℤ, pos, negsuc, negℤ}
 use Rattle.std.proofs.shelf.Lists.{drop-more, drop-all, take-rest}
-use Rattle.std.proofs.shelf.Tests.{le-leb, lt-leb, eq-eqb, ne-eqb}
+use Rattle.std.proofs.shelf.Tests.{le-leb, lt-leb, lt-ltb, eq-eqb, ne-eqb}
 use Rattle.std.proofs.shelf.Ways.{tells, leb-tells, eqb-tells}
+use Rattle.std.specs.declared.result.Result.the-variants.{Ok, Err}
+use Rattle.mysql.specs.Faults.{refused}
+use Rattle.mysql.specs.declared.fault.Refusal.the-variants.{InvalidInteger}
 use Rattle.std.specs.declared.option.Option.{Option}
 use Rattle.std.specs.declared.option.Option.the-variants.{Some, None}
 use Rattle.readings.specs.Decimals.{dots, before-dot, digit, digits, numeral, value-from, natural, integer-text, positive, negative}
+use Rattle.readings.specs.Integers.{in-range}
 
 abbrev pub after : ℕ → ℕ → List ℕ → Option ℕ
 after limit n bs = cond (digits (before-dot bs) && leb (value-from n (before-dot bs)) limit) (Some (value-from n (before-dot bs))) None
@@ -92,3 +97,75 @@ dots-more s i h e = ap dots (drop-more s i 0 h) ∙ ap (λ b. cond b 1 0 + dots 
 
 pub dots-same : (s : List ℕ) (i : ℕ) → i < length s → (getD s i 0 ≡ 46 → ⊥) → dots (drop i s) ≡ 0 + dots (drop (i + 1) s)
 dots-same s i h e = ap dots (drop-more s i 0 h) ∙ ap (λ b. cond b 1 0 + dots (drop (i + 1) s)) (ne-eqb (getD s i 0) 46 e)
+
+-- the sign, and what follows it as a pattern cuts it
+
+abbrev pub tail : List ℕ → List ℕ
+tail s = take (length s - 1) (drop 1 s)
+
+pub minus-at : (half : ℕ) (s : List ℕ) → 0 < length s → getD s 0 0 ≡ 45 → integer-text half (before-dot s) ≡ negative (natural half (before-dot (tail s)))
+minus-at half [] h e = absurd (omega arith)
+minus-at half (b ∷ bs) h e =
+    let ne : b ≡ 46 → ⊥ = λ q. omega arith in
+    rw (ne-eqb b 46 ne, eq-eqb b 45 e) (ap (λ u. negative (natural half (before-dot u))) (sym (take-rest (b ∷ bs) 1)))
+
+pub plus-at : (half : ℕ) (s : List ℕ) → 0 < length s → getD s 0 0 ≡ 43 → integer-text half (before-dot s) ≡ positive (natural (half - 1) (before-dot (tail s)))
+plus-at half [] h e = absurd (omega arith)
+plus-at half (b ∷ bs) h e =
+    let ne : b ≡ 46 → ⊥ = λ q. omega arith in
+    let nm : b ≡ 45 → ⊥ = λ q. omega arith in
+    rw (ne-eqb b 46 ne, ne-eqb b 45 nm, eq-eqb b 43 e) (ap (λ u. positive (natural (half - 1) (before-dot u))) (sym (take-rest (b ∷ bs) 1)))
+
+pub empty-at : (half : ℕ) (s : List ℕ) → length s ≡ 0 → integer-text half (before-dot s) ≡ Err (refused InvalidInteger)
+empty-at half [] h = refl
+empty-at half (b ∷ bs) h = absurd (omega arith)
+
+pub bare-at : (half : ℕ) (s : List ℕ) → (getD s 0 0 ≡ 45 → ⊥) → (getD s 0 0 ≡ 43 → ⊥) → integer-text half (before-dot s) ≡ positive (natural (half - 1) (before-dot s))
+bare-at half [] nm np = refl
+bare-at half (b ∷ bs) nm np =
+    elim (eqb-tells b 46) [
+      | inl p ↦ rw (p .0)
+      | inr p ↦ rw (p .0, ne-eqb b 45 nm, ne-eqb b 43 np)
+    ]
+
+-- what is found lies in the range
+
+found : (t : Bool) (limit n m : ℕ) → _≡_ {A = Option ℕ} (cond (t && leb n limit) (Some n) None) (Some m) → m ≤ limit
+found false limit n m e = let z : _≡_ {A = ℕ} 0 1 = cc in absurd (omega arith)
+found true limit n m e =
+    elim (leb-tells n limit) [
+      | inl p ↦ let q : n ≡ m = cc (rw (p .0) at e) in omega arith
+      | inr p ↦ let z : _≡_ {A = ℕ} 0 1 = cc (rw (p .0) at e) in absurd (omega arith)
+    ]
+
+within : (limit : ℕ) (ds : List ℕ) (m : ℕ) → natural limit ds ≡ Some m → m ≤ limit
+within limit ds m e = found (numeral ds) limit (value-from 0 ds) m e
+
+positive-in : (half : ℕ) (o : Option ℕ) (z : ℤ) → 0 < half → ((m : ℕ) → o ≡ Some m → m ≤ half - 1) → positive o ≡ Ok z → in-range half z ≡ Ok z
+positive-in half (Some m) z h k e =
+    let l = k m refl in
+    let q : pos m ≡ z = cc in
+    let f : ltb m half ≡ true = lt-ltb m half (omega arith) in
+    subst (λ (x : ℤ). in-range half x ≡ Ok x) q (rw f)
+positive-in half None z h k e = let w : _≡_ {A = ℕ} 0 1 = cc in absurd (omega arith)
+
+minus-in : (half m : ℕ) → 0 < half → m ≤ half → in-range half (negℤ (pos m)) ≡ Ok (negℤ (pos m))
+minus-in half zero h l = let f : ltb 0 half ≡ true = lt-ltb 0 half h in rw f
+minus-in half (suc m) h l = let f : ltb m half ≡ true = lt-ltb m half (omega arith) in rw f
+
+negative-in : (half : ℕ) (o : Option ℕ) (z : ℤ) → 0 < half → ((m : ℕ) → o ≡ Some m → m ≤ half) → negative o ≡ Ok z → in-range half z ≡ Ok z
+negative-in half (Some m) z h k e =
+    let q : negℤ (pos m) ≡ z = cc in
+    subst (λ (x : ℤ). in-range half x ≡ Ok x) q (minus-in half m h (k m refl))
+negative-in half None z h k e = let w : _≡_ {A = ℕ} 0 1 = cc in absurd (omega arith)
+
+pub text-in : (half : ℕ) (s : List ℕ) (z : ℤ) → 0 < half → integer-text half s ≡ Ok z → in-range half z ≡ Ok z
+text-in half [] z h e = let w : _≡_ {A = ℕ} 0 1 = cc in absurd (omega arith)
+text-in half (b ∷ bs) z h e =
+    elim (eqb-tells b 45) [
+      | inl p ↦ negative-in half (natural half bs) z h (λ m q. within half bs m q) (rw (p .0) at e)
+      | inr p ↦ elim (eqb-tells b 43) [
+          | inl q ↦ positive-in half (natural (half - 1) bs) z h (λ m r. within (half - 1) bs m r) (rw (p .0, q .0) at e)
+          | inr q ↦ positive-in half (natural (half - 1) (b ∷ bs)) z h (λ m r. within (half - 1) (b ∷ bs) m r) (rw (p .0, q .0) at e)
+        ]
+    ]

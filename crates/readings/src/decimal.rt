@@ -1,9 +1,12 @@
 // Numeric text as an integer. (In the original this stands with the readings of integers.)
 ghost use mathlib.Core.Path.{_≡_};
 ghost use mathlib.Core.Bool.{true, false};
-ghost use Prim.Native.Nat.{ℕ, _-_, _^_, _≤_};
+ghost use Prim.Native.Nat.{ℕ, _-_, _^_, _<_, _≤_};
+ghost use Rattle.std.specs.Options.{Cases};
 ghost use Rattle.readings.specs.Utf8.{utf8};
-ghost use Rattle.readings.specs.Decimals.{dots, before-dot, natural, integer-text};
+ghost use Rattle.readings.specs.Bytes.{through};
+ghost use Rattle.readings.specs.Decimals.{dots, before-dot, natural, positive, negative, integer-text, decimal};
+use crate::target::Target;
 use mysql::Fault;
 use mysql::Refusal;
 
@@ -53,4 +56,54 @@ fn magnitude(text: &[u8], limit: u64) -> Option<u64>
         }
     }
     Some(sum)
+}
+
+// A magnitude as a number.
+fn plain(magnitude: Option<u64>) -> Result<i64, Fault>
+    requires { ⌜ Cases magnitude (Unit {0}) (λ n. n < 2 ^ 63) ⌝ }
+    ensures { λ r. ⌜ r ≡ positive magnitude ⌝ }
+{
+    match magnitude {
+        Some(n) => Ok(n as i64),
+        None => Err(Fault::new(Refusal::InvalidInteger)),
+    }
+}
+
+// A magnitude as a number below zero. The lowest i64 has a magnitude that no i64 has.
+fn negated(magnitude: Option<u64>) -> Result<i64, Fault>
+    requires { ⌜ Cases magnitude (Unit {0}) (λ n. n ≤ 2 ^ 63) ⌝ }
+    ensures { λ r. ⌜ r ≡ negative magnitude ⌝ }
+{
+    match magnitude {
+        Some(n) => Ok(-i128::from(n) as i64),
+        None => Err(Fault::new(Refusal::InvalidInteger)),
+    }
+}
+
+// The integer before the first dot, from -half up to half - 1.
+fn integer_part(text: &[u8], half: u64) -> Result<i64, Fault>
+    requires low { ⌜ 10 ≤ half ⌝ }
+    requires high { ⌜ half ≤ 2 ^ 63 ⌝ }
+    ensures { λ r. ⌜ r ≡ integer-text half (before-dot (now (text .entry))) ⌝ }
+{
+    match text {
+        [b'-', digits @ ..] => negated(magnitude(digits, half)),
+        [b'+', digits @ ..] => plain(magnitude(digits, half - 1)),
+        [] => Err(Fault::new(Refusal::InvalidInteger)),
+        digits => plain(magnitude(digits, half - 1)),
+    }
+}
+
+// The integer before the dot of a numeric text; what stands after the dot is dropped.
+pub fn decimal_to_integer<T: Target>(bytes: &[u8]) -> Result<T, Fault>
+    ensures { λ r. ⌜ through (T·Target .whole) r ≡ decimal (T·Target .half) (now (bytes .entry)) ⌝ }
+{
+    if !is_utf8(bytes) {
+        return Err(Fault::new(Refusal::NotUtf8));
+    }
+    if count_dots(bytes) > 1 {
+        return Err(Fault::new(Refusal::ManyDots));
+    }
+    let x = integer_part(bytes, T::half_range())?;
+    T::narrow(x)
 }

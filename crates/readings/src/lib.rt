@@ -1,10 +1,15 @@
 // What a typed reading makes of a value's bytes and type.
 mod decimal;
 mod floats;
+mod target;
 mod value;
 
+pub use decimal::decimal_to_integer;
 pub use floats::f32_to_i64;
 pub use floats::f64_to_i64;
+pub use target::I32Target;
+pub use target::I64Target;
+pub use target::Target;
 pub use value::FromNeBytes;
 pub use value::MysqlValue;
 pub use value::NumericRepresentation;

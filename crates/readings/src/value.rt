@@ -6,6 +6,7 @@ ghost use lib.Ieee.{ofBits, binary32, binary64};
 ghost use mir.Val.{toZ};
 ghost use mir.Syntax.{w8, w16, w32, w64};
 ghost use Rattle.readings.specs.Bytes.{le, prefix, through};
+ghost use Rattle.readings.specs.Values.{representation};
 use mysql::Fault;
 use mysql::MysqlType;
 use mysql::Refusal;
@@ -33,6 +34,48 @@ pub enum NumericRepresentation<'a> {
     Float(f32),
     Double(f64),
     Decimal(&'a [u8]),
+}
+
+impl<'a> MysqlValue<'a> {
+    pub fn new(raw: &'a [u8], tpe: MysqlType) -> MysqlValue<'a>
+        ensures raw { λ r. ⌜ now (r .raw) ≡ now (raw .entry) ⌝ }
+        ensures tpe { λ r. ⌜ r .tpe ≡ tpe ⌝ }
+    {
+        MysqlValue { raw, tpe }
+    }
+
+    pub fn as_bytes(&self) -> &'a [u8]
+        ensures { λ r. ⌜ now r ≡ now (now (self .entry) .raw) ⌝ }
+    {
+        self.raw
+    }
+
+    pub fn value_type(&self) -> MysqlType
+        ensures { λ r. ⌜ r ≡ now (self .entry) .tpe ⌝ }
+    {
+        self.tpe
+    }
+
+    // The number that the value holds, where its type is one of numbers.
+    pub fn numeric_value(&self) -> Result<NumericRepresentation<'a>, Fault>
+        ensures { λ r. ⌜ r ≡ representation (now (self .entry) .tpe) (now (self .entry) .raw) ⌝ }
+    {
+        let raw = self.raw;
+        Ok(match self.tpe {
+            MysqlType::Tiny => NumericRepresentation::Tiny(read(raw)?),
+            MysqlType::UnsignedTiny => NumericRepresentation::UnsignedTiny(read(raw)?),
+            MysqlType::Short => NumericRepresentation::Small(read(raw)?),
+            MysqlType::UnsignedShort => NumericRepresentation::UnsignedSmall(read(raw)?),
+            MysqlType::Long => NumericRepresentation::Medium(read(raw)?),
+            MysqlType::UnsignedLong => NumericRepresentation::UnsignedMedium(read(raw)?),
+            MysqlType::LongLong => NumericRepresentation::Big(read(raw)?),
+            MysqlType::UnsignedLongLong => NumericRepresentation::UnsignedBig(read(raw)?),
+            MysqlType::Float => NumericRepresentation::Float(read(raw)?),
+            MysqlType::Double => NumericRepresentation::Double(read(raw)?),
+            MysqlType::Numeric => NumericRepresentation::Decimal(raw),
+            _ => return Err(Fault::new(Refusal::WrongType)),
+        })
+    }
 }
 
 // A number that lies in so many bytes, lowest first.
