@@ -1,3 +1,5 @@
 pub mod Ends
 pub mod Characters
 pub mod Scan
+pub mod Patterns
+pub mod Numbers

@@ -1,12 +1,14 @@
 // What a typed reading makes of a value's bytes and type.
 mod decimal;
 mod floats;
+mod primitives;
 mod target;
 mod value;
 
 pub use decimal::decimal_to_integer;
 pub use floats::f32_to_i64;
 pub use floats::f64_to_i64;
+pub use primitives::integer_value;
 pub use target::I32Target;
 pub use target::I64Target;
 pub use target::Target;
