@@ -4,3 +4,4 @@ pub mod Utf8
 pub mod Decimals
 pub mod Integers
 pub mod Values
+pub mod Times

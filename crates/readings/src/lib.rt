@@ -1,10 +1,15 @@
 // What a typed reading makes of a value's bytes and type.
+mod date_and_time;
 mod decimal;
 mod floats;
 mod primitives;
 mod target;
 mod value;
 
+pub use date_and_time::MysqlTime;
+pub use date_and_time::MysqlTimeDebug;
+pub use date_and_time::MysqlTimePartialEq;
+pub use date_and_time::time_value;
 pub use decimal::decimal_to_integer;
 pub use floats::f32_to_i64;
 pub use floats::f64_to_i64;
