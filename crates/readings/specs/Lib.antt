@@ -5,3 +5,4 @@ pub mod Decimals
 pub mod Integers
 pub mod Values
 pub mod Times
+pub mod Nulls

@@ -1,6 +1,7 @@
 // What a typed reading makes of a value's bytes and type.
 mod date_and_time;
 mod decimal;
+mod deserialize;
 mod floats;
 mod primitives;
 mod target;
@@ -11,6 +12,11 @@ pub use date_and_time::MysqlTimeDebug;
 pub use date_and_time::MysqlTimePartialEq;
 pub use date_and_time::time_value;
 pub use decimal::decimal_to_integer;
+pub use deserialize::FromSql;
+pub use deserialize::I32FromSql;
+pub use deserialize::I64FromSql;
+pub use deserialize::TimeFromSql;
+pub use deserialize::from_nullable_sql;
 pub use floats::f32_to_i64;
 pub use floats::f64_to_i64;
 pub use primitives::integer_value;
