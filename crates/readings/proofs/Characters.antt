@@ -85,7 +85,7 @@ three-says a b c e =
 
 -- a character and then UTF-8 is UTF-8
 
-add-1 : (a : ℕ) (r : List ℕ) → one a ≡ true → utf8 r ≡ true → utf8 (a ∷ r) ≡ true
+pub add-1 : (a : ℕ) (r : List ℕ) → one a ≡ true → utf8 r ≡ true → utf8 (a ∷ r) ≡ true
 add-1 a [] h k = h
 add-1 a (b ∷ []) h k = or-left (one a && utf8 (b ∷ [])) (two a b) (and-from (one a) (utf8 (b ∷ [])) h k)
 add-1 a (b ∷ c ∷ []) h k = or-left (one a && utf8 (b ∷ c ∷ [])) _ (and-from (one a) (utf8 (b ∷ c ∷ [])) h k)

@@ -3,3 +3,4 @@ pub mod Characters
 pub mod Scan
 pub mod Patterns
 pub mod Numbers
+pub mod Backs

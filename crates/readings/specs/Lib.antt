@@ -6,3 +6,4 @@ pub mod Integers
 pub mod Values
 pub mod Times
 pub mod Nulls
+pub mod Laws
