@@ -4,3 +4,4 @@ pub mod Faults
 pub mod Types
 pub mod Kept
 pub mod Taken
+pub mod Answers

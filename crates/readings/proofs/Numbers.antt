@@ -15,10 +15,12 @@ use Rattle.mysql.specs.declared.backend.MysqlType.{MysqlType}
 use Rattle.mysql.specs.declared.backend.MysqlType.the-variants as tpe
 use Rattle.readings.specs.declared.value.NumericRepresentation.{NumericRepresentation}
 use Rattle.readings.specs.declared.value.NumericRepresentation.the-variants as number
-use Rattle.readings.specs.Bytes.{prefix, through, next}
+use Rattle.mysql.specs.Answers.{through, next}
+use Rattle.readings.specs.Bytes.{prefix}
 use Rattle.readings.specs.Floats.{real, single, double, truncated}
-use Rattle.readings.specs.Decimals.{decimal}
-use Rattle.readings.specs.Integers.{in-range, integer}
+use Rattle.numeric.specs.Decimals.{decimal}
+use Rattle.numeric.specs.Targets.{in-range}
+use Rattle.readings.specs.Integers.{integer}
 use Rattle.readings.specs.Values.{representation}
 use Rattle.readings.proofs.Patterns.{by-pattern-32, by-pattern-64}
 

@@ -18,12 +18,3 @@ le (b ∷ bs) = b + 256 * le bs
 -- the number in the first bytes, where there are as many; longer bytes pass, shorter ones are refusal 15
 abbrev pub prefix : ℕ → List ℕ → Result ℕ Fault
 prefix width bs = cond (leb width (length bs)) (Ok (le (take width bs))) (Err (refused TooShort))
-
--- an answer carried on: its value through a function, its fault as it is
-abbrev pub through : {X Y : Type 0} → (X → Y) → Result X Fault → Result Y Fault
-through f (Ok x) = Ok (f x)
-through f (Err e) = Err e
-
-abbrev pub next : {X Y : Type 0} → Result X Fault → (X → Result Y Fault) → Result Y Fault
-next (Ok x) k = k x
-next (Err e) k = Err e

@@ -1,26 +1,21 @@
 -- The whole number that a value stands for, by its type and bytes. A target holds the numbers from -half up to half - 1.
 use Prim.Native.Nat.{ℕ}
-use mathlib.Core.Bool.{Bool, cond}
 use mathlib.Core.List.{List}
-use lib.Dec.{ltb}
-use lib.IntN.{ℤ, pos, negsuc}
+use lib.IntN.{ℤ, pos}
 use mir.Val.{toZ}
 use mir.Syntax.{w8, w16, w32, w64}
 use Rattle.std.specs.declared.result.Result.{Result}
-use Rattle.std.specs.declared.result.Result.the-variants.{Ok, Err}
+use Rattle.std.specs.declared.result.Result.the-variants.{Err}
 use Rattle.mysql.specs.declared.fault.Fault.{Fault}
-use Rattle.mysql.specs.declared.fault.Refusal.the-variants.{OutOfRange, WrongType}
+use Rattle.mysql.specs.declared.fault.Refusal.the-variants.{WrongType}
 use Rattle.mysql.specs.Faults.{refused}
 use Rattle.mysql.specs.declared.backend.MysqlType.{MysqlType}
 use Rattle.mysql.specs.declared.backend.MysqlType.the-variants.{Tiny, UnsignedTiny, Short, UnsignedShort, Long, UnsignedLong, LongLong, UnsignedLongLong, Float, Double, Numeric, Time, Date, DateTime, Timestamp, String, Blob, Bit, Set, Enum}
-use Rattle.readings.specs.Bytes.{prefix, next}
+use Rattle.mysql.specs.Answers.{next}
+use Rattle.numeric.specs.Targets.{in-range}
+use Rattle.numeric.specs.Decimals.{decimal}
+use Rattle.readings.specs.Bytes.{prefix}
 use Rattle.readings.specs.Floats.{single, double, truncated}
-use Rattle.readings.specs.Decimals.{decimal}
-
--- a number of the target's range, or refusal 18; `negsuc n` is -(n + 1)
-abbrev pub in-range : ℕ → ℤ → Result ℤ Fault
-in-range half (pos n) = cond (ltb n half) (Ok (pos n)) (Err (refused OutOfRange))
-in-range half (negsuc n) = cond (ltb n half) (Ok (negsuc n)) (Err (refused OutOfRange))
 
 -- Whole numbers lie lowest byte first, signed ones in two's complement (`toZ`). Floats are IEEE 754's and lose their fraction.
 -- Numeric is text. No other type has a number: refusal 14.

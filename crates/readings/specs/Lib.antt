@@ -1,7 +1,5 @@
 pub mod Bytes
 pub mod Floats
-pub mod Utf8
-pub mod Decimals
 pub mod Integers
 pub mod Values
 pub mod Times

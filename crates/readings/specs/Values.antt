@@ -14,7 +14,8 @@ use Rattle.mysql.specs.declared.backend.MysqlType.{MysqlType}
 use Rattle.mysql.specs.declared.backend.MysqlType.the-variants as tpe
 use Rattle.readings.specs.declared.value.NumericRepresentation.{NumericRepresentation}
 use Rattle.readings.specs.declared.value.NumericRepresentation.the-variants as number
-use Rattle.readings.specs.Bytes.{prefix, through}
+use Rattle.mysql.specs.Answers.{through}
+use Rattle.readings.specs.Bytes.{prefix}
 
 abbrev pub representation : MysqlType → RefT (List ℕ) → Result NumericRepresentation Fault
 representation tpe.Tiny raw = through (λ n. number.Tiny (toZ w8 n)) (prefix 1 (raw .now))

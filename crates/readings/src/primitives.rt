@@ -1,12 +1,13 @@
 // Values as integers.
 ghost use mathlib.Core.Path.{_≡_};
-ghost use Rattle.readings.specs.Bytes.{through, next};
+ghost use Rattle.mysql.specs.Answers.{through, next};
 ghost use lib.IntN.{pos};
-ghost use Rattle.readings.specs.Integers.{in-range, integer};
-use crate::decimal::decimal_to_integer;
+ghost use Rattle.numeric.specs.Targets.{in-range};
+ghost use Rattle.readings.specs.Integers.{integer};
+use numeric::decimal_to_integer;
 use crate::floats::f32_to_i64;
 use crate::floats::f64_to_i64;
-use crate::target::Target;
+use numeric::Target;
 use crate::value::MysqlValue;
 use crate::value::NumericRepresentation;
 use mysql::Fault;

@@ -1,8 +1,8 @@
 use mathlib.Core.Path.{_≡_, ap, _∙_}
 use Rattle.std.proofs.shelf.Results.{err-from-errBy}
 use Rattle.readings.specs.declared.value.NumericRepresentation.the-variants as number
-use Rattle.readings.specs.Bytes.{next}
-use Rattle.readings.specs.Integers.{in-range}
+use Rattle.mysql.specs.Answers.{next}
+use Rattle.numeric.specs.Targets.{in-range}
 use Rattle.readings.proofs.Numbers.{formed, unformed}
 use Rattle.readings.proofs.primitives.integer_value.Needs as need
 

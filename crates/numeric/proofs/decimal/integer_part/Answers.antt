@@ -2,9 +2,9 @@ use borrow.Author.Needs.{needs}
 use mathlib.Core.Path.{sym, ap, _∙_}
 use native.Mathlib.Omega.{arith}
 use Rattle.std.specs.declared.result.Result.the-variants.{Err}
-use Rattle.readings.specs.Decimals.{positive, negative}
-use Rattle.readings.proofs.Scan.{minus-at, plus-at, bare-at, empty-at}
-use Rattle.readings.proofs.decimal.integer_part.Needs as need
+use Rattle.numeric.specs.Decimals.{positive, negative}
+use Rattle.numeric.proofs.Scan.{minus-at, plus-at, bare-at, empty-at}
+use Rattle.numeric.proofs.decimal.integer_part.Needs as need
 
 pub returns-in-45 : need.returns-in-45
 returns-in-45 c = c .negated .ensures ∙ ap negative (c .magnitude .ensures) ∙ sym (minus-at (c .args .half) (c .args .text .now) (search needs) (search needs))

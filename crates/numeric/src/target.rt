@@ -2,8 +2,8 @@
 ghost use mathlib.Core.Path.{_≡_};
 ghost use Prim.Native.Nat.{ℕ, _^_, _≤_};
 ghost use lib.IntN.{ℤ};
-ghost use Rattle.readings.specs.Bytes.{through};
-ghost use Rattle.readings.specs.Integers.{in-range};
+ghost use Rattle.mysql.specs.Answers.{through};
+ghost use Rattle.numeric.specs.Targets.{in-range};
 use mysql::Fault;
 use mysql::Refusal;
 

@@ -13,7 +13,7 @@ use Rattle.mysql.specs.declared.fault.Fault.{Fault}
 use Rattle.mysql.specs.declared.fault.Refusal.the-variants.{NotUtf8, ManyDots, InvalidInteger}
 use Rattle.mysql.specs.Faults.{refused}
 use Rattle.mysql.specs.Ranges.{between}
-use Rattle.readings.specs.Utf8.{utf8}
+use Rattle.numeric.specs.Utf8.{utf8}
 
 -- the bytes of "+", "-" and "."
 abbrev pub plus-sign : ℕ

@@ -1,9 +1,9 @@
 use mathlib.Core.Path.{sym}
 use mathlib.Core.Logic.{⊎-elim}
 use Rattle.std.proofs.shelf.Tests.{cases-bool}
-use Rattle.readings.specs.Utf8.{utf8}
-use Rattle.readings.proofs.Characters.{in-grammar, from-grammar}
-use Rattle.readings.proofs.decimal.is_utf8.Needs as need
+use Rattle.numeric.specs.Utf8.{utf8}
+use Rattle.numeric.proofs.Characters.{in-grammar, from-grammar}
+use Rattle.numeric.proofs.decimal.is_utf8.Needs as need
 
 pub returns-in-Ok : need.returns-in-Ok
 returns-in-Ok c = sym (in-grammar (c .args .bytes .now) (c .in-Ok .ensures tt .cases .1))

@@ -4,8 +4,8 @@ use lib.ListN.{drop}
 use mathlib.Core.Logic.{inl, inr}
 use native.Mathlib.Omega.{arith}
 use borrow.Author.Needs.{needs}
-use Rattle.readings.proofs.Scan.{after, end-from, dot-from, digit-from, full-from, other-from, begins, none-at-none, none-at-other}
-use Rattle.readings.proofs.decimal.magnitude.Needs as need
+use Rattle.numeric.proofs.Scan.{after, end-from, dot-from, digit-from, full-from, other-from, begins, none-at-none, none-at-other}
+use Rattle.numeric.proofs.decimal.magnitude.Needs as need
 
 pub returns-in-rest : need.returns-in-rest
 returns-in-rest c = sym (none-at-none (c .args .limit) (c .args .text .now) (search needs))

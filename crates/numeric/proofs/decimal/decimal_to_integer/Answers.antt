@@ -11,11 +11,11 @@ use Rattle.std.proofs.shelf.Tests.{le-leb}
 use Rattle.std.specs.declared.result.Result.the-variants.{Err}
 use Rattle.mysql.specs.Faults.{refused}
 use Rattle.mysql.specs.declared.fault.Refusal.the-variants.{NotUtf8, ManyDots}
-use Rattle.readings.specs.Utf8.{utf8}
-use Rattle.readings.specs.Decimals.{dots, before-dot, integer-text}
-use Rattle.readings.specs.Integers.{in-range}
-use Rattle.readings.proofs.Scan.{text-in}
-use Rattle.readings.proofs.decimal.decimal_to_integer.Needs as need
+use Rattle.numeric.specs.Utf8.{utf8}
+use Rattle.numeric.specs.Decimals.{dots, before-dot, integer-text}
+use Rattle.numeric.specs.Targets.{in-range}
+use Rattle.numeric.proofs.Scan.{text-in}
+use Rattle.numeric.proofs.decimal.decimal_to_integer.Needs as need
 
 pub returns : need.returns
 returns g c =

@@ -3,10 +3,10 @@ use Prim.Native.Nat.{ℕ, _+_}
 use native.Mathlib.Omega.{arith}
 use lib.ListN.{drop}
 use Rattle.std.proofs.shelf.Lists.{drop-all}
-use Rattle.readings.specs.Decimals.{dots}
-use Rattle.readings.proofs.Scan.{dots-more, dots-same}
-use Rattle.readings.proofs.decimal.count_dots.Needs as need
-use Rattle.readings.proofs.decimal.count_dots.Needs.{then-b-eq46, else-b-eq46}
+use Rattle.numeric.specs.Decimals.{dots}
+use Rattle.numeric.proofs.Scan.{dots-more, dots-same}
+use Rattle.numeric.proofs.decimal.count_dots.Needs as need
+use Rattle.numeric.proofs.decimal.count_dots.Needs.{then-b-eq46, else-b-eq46}
 
 pub loop-b-again : need.loop-b-again
 loop-b-again c =

@@ -12,7 +12,7 @@ use Rattle.std.proofs.shelf.Tests.{cases-lt, lt-ltb, le-ltb, and-parts, and-fro
 use Rattle.std.proofs.shelf.Ways.{tells}
 use Rattle.std.specs.Text.{Utf8}
 use Rattle.mysql.specs.Ranges.{between}
-use Rattle.readings.specs.Utf8.{tail, one, two, three, four, utf8}
+use Rattle.numeric.specs.Utf8.{tail, one, two, three, four, utf8}
 
 -- what an encoding is, by the size of the scalar value
 

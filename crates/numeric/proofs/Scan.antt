@@ -17,8 +17,8 @@ use Rattle.mysql.specs.Faults.{refused}
 use Rattle.mysql.specs.declared.fault.Refusal.the-variants.{InvalidInteger}
 use Rattle.std.specs.declared.option.Option.{Option}
 use Rattle.std.specs.declared.option.Option.the-variants.{Some, None}
-use Rattle.readings.specs.Decimals.{dots, before-dot, digit, digits, numeral, value-from, natural, integer-text, positive, negative}
-use Rattle.readings.specs.Integers.{in-range}
+use Rattle.numeric.specs.Decimals.{dots, before-dot, digit, digits, numeral, value-from, natural, integer-text, positive, negative}
+use Rattle.numeric.specs.Targets.{in-range}
 
 abbrev pub after : ℕ → ℕ → List ℕ → Option ℕ
 after limit n bs = cond (digits (before-dot bs) && leb (value-from n (before-dot bs)) limit) (Some (value-from n (before-dot bs))) None
