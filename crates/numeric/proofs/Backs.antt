@@ -102,9 +102,9 @@ unsigned-text half (b ∷ ds) l h =
 below : (half n : ℕ) (z : ℤ) → (cond (ltb n half) (Ok z) (Err (refused OutOfRange))) ≡ Ok z → n < half
 below half n z e =
     ⊎-elim
-      (λ h. ltb-true n half h)
-      (λ h. let k = ap (λ t. cond t (Ok z) (Err (refused OutOfRange))) (sym h) ∙ e in let w : _≡_ {A = ℕ} 0 1 = cc in absurd (omega arith))
-      (cases-bool (ltb n half))
+    (λ h. ltb-true n half h)
+    (λ h. let k = ap (λ t. cond t (Ok z) (Err (refused OutOfRange))) (sym h) ∙ e in let w : _≡_ {A = ℕ} 0 1 = cc in absurd (omega arith))
+    (cases-bool (ltb n half))
 
 -- a text with these three facts reads as what stands before its dot
 reads-as : (half : ℕ) (bs ds : List ℕ) → utf8 bs ≡ true → dots bs ≤ 1 → before-dot bs ≡ ds → decimal half bs ≡ integer-text half ds
@@ -119,7 +119,7 @@ printed half (pos n) f h l r k =
     let s : n < 2 ^ 64 = omega arith in
     let ds = digits-decimal own n s in
     reads-as half (written n ++ f) (written n) (digits-utf8 (written n) f ds (fraction-utf8 f k))
-      (omega (arith, digits-dots (written n) f ds, fraction-dots f k)) (digits-before (written n) f ds (fraction-before f k))
+    (omega (arith, digits-dots (written n) f ds, fraction-dots f k)) (digits-before (written n) f ds (fraction-before f k))
     ∙ unsigned-text half (written n) (decimal-some n s) ds
     ∙ ap positive (natural-of (half - 1) n s (omega arith))
 printed half (negsuc n) f h l r k =
@@ -128,5 +128,5 @@ printed half (negsuc n) f h l r k =
     let ds = digits-decimal own (suc n) s in
     let w = written (suc n) in
     reads-as half (45 ∷ (w ++ f)) (45 ∷ w) (add-1 45 (w ++ f) refl (digits-utf8 w f ds (fraction-utf8 f k)))
-      (omega (arith, digits-dots w f ds, fraction-dots f k)) (ap (λ u. 45 ∷ u) (digits-before w f ds (fraction-before f k)))
+    (omega (arith, digits-dots w f ds, fraction-dots f k)) (ap (λ u. 45 ∷ u) (digits-before w f ds (fraction-before f k)))
     ∙ ap negative (natural-of half (suc n) s (omega arith))

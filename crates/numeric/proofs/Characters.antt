@@ -69,19 +69,19 @@ three-says a b c e =
     let t = tail-says c (p .1) in
     let k = p .0 in
     ⊎-elim
-      (λ h. let x : a ≡ 224 = grind (arith, tells) in let y : 160 ≤ b = grind (arith, tells) in let z : b ≤ 191 = grind (arith, tells) in
-        record { a-low = omega arith; a-high = omega arith; b-low = omega arith; b-high = omega arith; c-low = t .0; c-high = t .1; shortest = omega arith; no-surrogate = inl (omega arith) })
-      (λ g. ⊎-elim
-        (λ h. let x : 225 ≤ a = grind (arith, tells) in let w : a ≤ 236 = grind (arith, tells) in let y : 128 ≤ b = grind (arith, tells) in let z : b ≤ 191 = grind (arith, tells) in
-          record { a-low = omega arith; a-high = omega arith; b-low = omega arith; b-high = omega arith; c-low = t .0; c-high = t .1; shortest = omega arith; no-surrogate = inl (omega arith) })
-        (λ f. ⊎-elim
-          (λ h. let x : a ≡ 237 = grind (arith, tells) in let y : 128 ≤ b = grind (arith, tells) in let z : b ≤ 159 = grind (arith, tells) in
-            record { a-low = omega arith; a-high = omega arith; b-low = omega arith; b-high = omega arith; c-low = t .0; c-high = t .1; shortest = omega arith; no-surrogate = inl (omega arith) })
-          (λ h. let x : 238 ≤ a = grind (arith, tells) in let w : a ≤ 239 = grind (arith, tells) in let y : 128 ≤ b = grind (arith, tells) in let z : b ≤ 191 = grind (arith, tells) in
-            record { a-low = omega arith; a-high = omega arith; b-low = omega arith; b-high = omega arith; c-low = t .0; c-high = t .1; shortest = omega arith; no-surrogate = inr (omega arith) })
-          (or-cases (eqb a 0xED && between 0x80 0x9F b) (between 0xEE 0xEF a && tail b) f))
-        (or-cases (between 0xE1 0xEC a && tail b) ((eqb a 0xED && between 0x80 0x9F b) || (between 0xEE 0xEF a && tail b)) g))
-      (or-cases (eqb a 0xE0 && between 0xA0 0xBF b) ((between 0xE1 0xEC a && tail b) || ((eqb a 0xED && between 0x80 0x9F b) || (between 0xEE 0xEF a && tail b))) k)
+    (λ h. let x : a ≡ 224 = grind (arith, tells) in let y : 160 ≤ b = grind (arith, tells) in let z : b ≤ 191 = grind (arith, tells) in
+    record { a-low = omega arith; a-high = omega arith; b-low = omega arith; b-high = omega arith; c-low = t .0; c-high = t .1; shortest = omega arith; no-surrogate = inl (omega arith) })
+    (λ g. ⊎-elim
+    (λ h. let x : 225 ≤ a = grind (arith, tells) in let w : a ≤ 236 = grind (arith, tells) in let y : 128 ≤ b = grind (arith, tells) in let z : b ≤ 191 = grind (arith, tells) in
+    record { a-low = omega arith; a-high = omega arith; b-low = omega arith; b-high = omega arith; c-low = t .0; c-high = t .1; shortest = omega arith; no-surrogate = inl (omega arith) })
+    (λ f. ⊎-elim
+    (λ h. let x : a ≡ 237 = grind (arith, tells) in let y : 128 ≤ b = grind (arith, tells) in let z : b ≤ 159 = grind (arith, tells) in
+    record { a-low = omega arith; a-high = omega arith; b-low = omega arith; b-high = omega arith; c-low = t .0; c-high = t .1; shortest = omega arith; no-surrogate = inl (omega arith) })
+    (λ h. let x : 238 ≤ a = grind (arith, tells) in let w : a ≤ 239 = grind (arith, tells) in let y : 128 ≤ b = grind (arith, tells) in let z : b ≤ 191 = grind (arith, tells) in
+    record { a-low = omega arith; a-high = omega arith; b-low = omega arith; b-high = omega arith; c-low = t .0; c-high = t .1; shortest = omega arith; no-surrogate = inr (omega arith) })
+    (or-cases (eqb a 0xED && between 0x80 0x9F b) (between 0xEE 0xEF a && tail b) f))
+    (or-cases (between 0xE1 0xEC a && tail b) ((eqb a 0xED && between 0x80 0x9F b) || (between 0xEE 0xEF a && tail b)) g))
+    (or-cases (eqb a 0xE0 && between 0xA0 0xBF b) ((between 0xE1 0xEC a && tail b) || ((eqb a 0xED && between 0x80 0x9F b) || (between 0xEE 0xEF a && tail b))) k)
 
 -- a character and then UTF-8 is UTF-8
 
@@ -123,21 +123,21 @@ starts c r s k =
     let top : c < 1114112 = parts c (scalar-cases c s) in
     let none = no-surrogate-of c (scalar-cases c s) in
     ⊎-elim
-      (λ (h : c < 128). rw (encode-1 c h) (add-1 c r (is-one c h) k))
-      (λ (l : 128 ≤ c). ⊎-elim
-        (λ (h : c < 2048). rw (encode-2 c l h) (add-2 (192 + c / 64) (next c) r (is-two (192 + c / 64) (next c) (omega arith) (omega arith) (omega arith) (omega arith)) k))
-        (λ (m : 2048 ≤ c). ⊎-elim
-          (λ (h : c < 65536).
-            let x : (224 + c / 4096 - 224) * 64 + (next (c / 64) - 128) ≡ c / 64 = omega arith in
-            let P : ℕ → Type 0 = λ v. (v < 864) ⊎ (896 ≤ v) in
-            rw (encode-3 c m h) (add-3 (224 + c / 4096) (next (c / 64)) (next c) r
-              (is-three (224 + c / 4096) (next (c / 64)) (next c) (omega arith) (omega arith) (omega arith) (omega arith) (omega arith) (omega arith) (omega arith) (subst P (sym x) none)) k))
-          (λ (n : 65536 ≤ c).
-            rw (encode-4 c n) (add-4 (240 + c / 262144) (next (c / 4096)) (next (c / 64)) (next c) r
-              (is-four (240 + c / 262144) (next (c / 4096)) (next (c / 64)) (next c) (omega arith) (omega arith) (omega arith) (omega arith) (omega arith) (omega arith) (omega arith) (omega arith) (omega arith) (omega arith)) k))
-          (cases-lt c 65536))
-        (cases-lt c 2048))
-      (cases-lt c 128)
+    (λ (h : c < 128). rw (encode-1 c h) (add-1 c r (is-one c h) k))
+    (λ (l : 128 ≤ c). ⊎-elim
+    (λ (h : c < 2048). rw (encode-2 c l h) (add-2 (192 + c / 64) (next c) r (is-two (192 + c / 64) (next c) (omega arith) (omega arith) (omega arith) (omega arith)) k))
+    (λ (m : 2048 ≤ c). ⊎-elim
+    (λ (h : c < 65536).
+    let x : (224 + c / 4096 - 224) * 64 + (next (c / 64) - 128) ≡ c / 64 = omega arith in
+    let P : ℕ → Type 0 = λ v. (v < 864) ⊎ (896 ≤ v) in
+    rw (encode-3 c m h) (add-3 (224 + c / 4096) (next (c / 64)) (next c) r
+    (is-three (224 + c / 4096) (next (c / 64)) (next c) (omega arith) (omega arith) (omega arith) (omega arith) (omega arith) (omega arith) (omega arith) (subst P (sym x) none)) k))
+    (λ (n : 65536 ≤ c).
+    rw (encode-4 c n) (add-4 (240 + c / 262144) (next (c / 4096)) (next (c / 64)) (next c) r
+    (is-four (240 + c / 262144) (next (c / 4096)) (next (c / 64)) (next c) (omega arith) (omega arith) (omega arith) (omega arith) (omega arith) (omega arith) (omega arith) (omega arith) (omega arith) (omega arith)) k))
+    (cases-lt c 65536))
+    (cases-lt c 2048))
+    (cases-lt c 128)
 
 -- and back: each character of the grammar is the encoding of a scalar value
 
@@ -233,25 +233,25 @@ from-grammar [] e = ([], (refl, refl))
 from-grammar (a ∷ []) e = more (a ∷ []) [] (character-1 a e) (from-grammar [] refl)
 from-grammar (a ∷ b ∷ []) e =
     ⊎-elim
-      (λ h. let p = and-parts (one a) (utf8 (b ∷ [])) h in more (a ∷ []) (b ∷ []) (character-1 a (p .0)) (from-grammar (b ∷ []) (p .1)))
-      (λ h. more (a ∷ b ∷ []) [] (character-2 a b h) (from-grammar [] refl))
-      (or-cases (one a && utf8 (b ∷ [])) (two a b) e)
+    (λ h. let p = and-parts (one a) (utf8 (b ∷ [])) h in more (a ∷ []) (b ∷ []) (character-1 a (p .0)) (from-grammar (b ∷ []) (p .1)))
+    (λ h. more (a ∷ b ∷ []) [] (character-2 a b h) (from-grammar [] refl))
+    (or-cases (one a && utf8 (b ∷ [])) (two a b) e)
 from-grammar (a ∷ b ∷ c ∷ []) e =
     ⊎-elim
-      (λ h. let p = and-parts (one a) (utf8 (b ∷ c ∷ [])) h in more (a ∷ []) (b ∷ c ∷ []) (character-1 a (p .0)) (from-grammar (b ∷ c ∷ []) (p .1)))
-      (λ g. ⊎-elim
-        (λ h. let p = and-parts (two a b) (utf8 (c ∷ [])) h in more (a ∷ b ∷ []) (c ∷ []) (character-2 a b (p .0)) (from-grammar (c ∷ []) (p .1)))
-        (λ h. more (a ∷ b ∷ c ∷ []) [] (character-3 a b c h) (from-grammar [] refl))
-        (or-cases (two a b && utf8 (c ∷ [])) (three a b c) g))
-      (or-cases (one a && utf8 (b ∷ c ∷ [])) ((two a b && utf8 (c ∷ [])) || three a b c) e)
+    (λ h. let p = and-parts (one a) (utf8 (b ∷ c ∷ [])) h in more (a ∷ []) (b ∷ c ∷ []) (character-1 a (p .0)) (from-grammar (b ∷ c ∷ []) (p .1)))
+    (λ g. ⊎-elim
+    (λ h. let p = and-parts (two a b) (utf8 (c ∷ [])) h in more (a ∷ b ∷ []) (c ∷ []) (character-2 a b (p .0)) (from-grammar (c ∷ []) (p .1)))
+    (λ h. more (a ∷ b ∷ c ∷ []) [] (character-3 a b c h) (from-grammar [] refl))
+    (or-cases (two a b && utf8 (c ∷ [])) (three a b c) g))
+    (or-cases (one a && utf8 (b ∷ c ∷ [])) ((two a b && utf8 (c ∷ [])) || three a b c) e)
 from-grammar (a ∷ b ∷ c ∷ d ∷ r) e =
     ⊎-elim
-      (λ h. let p = and-parts (one a) (utf8 (b ∷ c ∷ d ∷ r)) h in more (a ∷ []) (b ∷ c ∷ d ∷ r) (character-1 a (p .0)) (from-grammar (b ∷ c ∷ d ∷ r) (p .1)))
-      (λ g. ⊎-elim
-        (λ h. let p = and-parts (two a b) (utf8 (c ∷ d ∷ r)) h in more (a ∷ b ∷ []) (c ∷ d ∷ r) (character-2 a b (p .0)) (from-grammar (c ∷ d ∷ r) (p .1)))
-        (λ f. ⊎-elim
-          (λ h. let p = and-parts (three a b c) (utf8 (d ∷ r)) h in more (a ∷ b ∷ c ∷ []) (d ∷ r) (character-3 a b c (p .0)) (from-grammar (d ∷ r) (p .1)))
-          (λ h. let p = and-parts (four a b c d) (utf8 r) h in more (a ∷ b ∷ c ∷ d ∷ []) r (character-4 a b c d (p .0)) (from-grammar r (p .1)))
-          (or-cases (three a b c && utf8 (d ∷ r)) (four a b c d && utf8 r) f))
-        (or-cases (two a b && utf8 (c ∷ d ∷ r)) ((three a b c && utf8 (d ∷ r)) || (four a b c d && utf8 r)) g))
-      (or-cases (one a && utf8 (b ∷ c ∷ d ∷ r)) ((two a b && utf8 (c ∷ d ∷ r)) || ((three a b c && utf8 (d ∷ r)) || (four a b c d && utf8 r))) e)
+    (λ h. let p = and-parts (one a) (utf8 (b ∷ c ∷ d ∷ r)) h in more (a ∷ []) (b ∷ c ∷ d ∷ r) (character-1 a (p .0)) (from-grammar (b ∷ c ∷ d ∷ r) (p .1)))
+    (λ g. ⊎-elim
+    (λ h. let p = and-parts (two a b) (utf8 (c ∷ d ∷ r)) h in more (a ∷ b ∷ []) (c ∷ d ∷ r) (character-2 a b (p .0)) (from-grammar (c ∷ d ∷ r) (p .1)))
+    (λ f. ⊎-elim
+    (λ h. let p = and-parts (three a b c) (utf8 (d ∷ r)) h in more (a ∷ b ∷ c ∷ []) (d ∷ r) (character-3 a b c (p .0)) (from-grammar (d ∷ r) (p .1)))
+    (λ h. let p = and-parts (four a b c d) (utf8 r) h in more (a ∷ b ∷ c ∷ d ∷ []) r (character-4 a b c d (p .0)) (from-grammar r (p .1)))
+    (or-cases (three a b c && utf8 (d ∷ r)) (four a b c d && utf8 r) f))
+    (or-cases (two a b && utf8 (c ∷ d ∷ r)) ((three a b c && utf8 (d ∷ r)) || (four a b c d && utf8 r)) g))
+    (or-cases (one a && utf8 (b ∷ c ∷ d ∷ r)) ((two a b && utf8 (c ∷ d ∷ r)) || ((three a b c && utf8 (d ∷ r)) || (four a b c d && utf8 r))) e)

@@ -165,7 +165,7 @@ text-in half (b ∷ bs) z h e =
     elim (eqb-tells b 45) [
       | inl p ↦ negative-in half (natural half bs) z h (λ m q. within half bs m q) (rw (p .0) at e)
       | inr p ↦ elim (eqb-tells b 43) [
-          | inl q ↦ positive-in half (natural (half - 1) bs) z h (λ m r. within (half - 1) bs m r) (rw (p .0, q .0) at e)
-          | inr q ↦ positive-in half (natural (half - 1) (b ∷ bs)) z h (λ m r. within (half - 1) (b ∷ bs) m r) (rw (p .0, q .0) at e)
-        ]
+        | inl q ↦ positive-in half (natural (half - 1) bs) z h (λ m r. within (half - 1) bs m r) (rw (p .0, q .0) at e)
+        | inr q ↦ positive-in half (natural (half - 1) (b ∷ bs)) z h (λ m r. within (half - 1) (b ∷ bs) m r) (rw (p .0, q .0) at e)
+      ]
     ]

@@ -3,5 +3,4 @@ ghost use Rattle.numeric.specs.Laws.{Printed-reads-back};
 
 pub fn printed_integers_read_back()
     ensures { λ _. ⌜ Printed-reads-back ⌝ }
-{
-}
+{}

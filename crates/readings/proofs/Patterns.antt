@@ -32,17 +32,17 @@ module _ (p d a c : ℕ) (hd : 0 < d) (hc : 0 < c) (same : p * c ≡ a * d) wher
   over : (k : ℕ) → p ≤ k * d → a ≤ k * c
   over k h =
       le-of-mul-le-mul-right (subst (λ (x : ℕ). x ≤ k * c * d) same
-        (subst (λ (x : ℕ). p * c ≤ x) (mul-assoc k d c ∙ ap (λ (x : ℕ). k * x) (mul-comm d c) ∙ sym (mul-assoc k c d)) (mul-le-mul-right c h))) hd
+      (subst (λ (x : ℕ). p * c ≤ x) (mul-assoc k d c ∙ ap (λ (x : ℕ). k * x) (mul-comm d c) ∙ sym (mul-assoc k c d)) (mul-le-mul-right c h))) hd
 
 limits : (p d a c : ℕ) → 0 < d → 0 < c → p * c ≡ a * d → (k : ℕ) → leb p (k * d) ≡ leb a (k * c)
 limits p d a c hd hc same k =
     ⊎-elim
-      (λ e. e ∙ sym (le-leb a (k * c) (over p d a c hd hc same k (leb-true p (k * d) e))))
-      (λ e. ⊎-elim
-        (λ f. absurd (both-ways (leb p (k * d)) e (le-leb p (k * d) (over a c p d hc hd (sym same) k (leb-true a (k * c) f)))))
-        (λ f. e ∙ sym f)
-        (cases-bool (leb a (k * c))))
-      (cases-bool (leb p (k * d)))
+    (λ e. e ∙ sym (le-leb a (k * c) (over p d a c hd hc same k (leb-true p (k * d) e))))
+    (λ e. ⊎-elim
+    (λ f. absurd (both-ways (leb p (k * d)) e (le-leb p (k * d) (over a c p d hc hd (sym same) k (leb-true a (k * c) f)))))
+    (λ f. e ∙ sym f)
+    (cases-bool (leb a (k * c))))
+    (cases-bool (leb p (k * d)))
 
 same-value : (x : Float) (s : Bool) (a c : ℕ) → 0 < c → HasValue x s a c → truncated (real x) ≡ truncated (finite s a c)
 same-value nan s a c h v = absurd v

@@ -46,5 +46,5 @@ by-sign sign bs = cond (eqb sign 0) (Ok (record-at bs)) (cond (eqb sign 1) (Err 
 abbrev pub time : MysqlType → List ℕ → Result MysqlTime Fault
 time t bs =
     cond (between 11 14 (row-of t))
-      (cond (leb 48 (length bs)) (by-sign (getD bs 32 0) bs) (Err (refused TooShort)))
-      (Err (refused WrongType))
+    (cond (leb 48 (length bs)) (by-sign (getD bs 32 0) bs) (Err (refused TooShort)))
+    (Err (refused WrongType))

@@ -51,7 +51,10 @@ fn number_at<T: FromNeBytes>(raw: &[u8], at: usize) -> T
 fn is_time(tpe: MysqlType) -> bool
     ensures { λ r. ⌜ r ≡ between 11 14 (row-of tpe) ⌝ }
 {
-    matches!(tpe, MysqlType::Time | MysqlType::Date | MysqlType::DateTime | MysqlType::Timestamp)
+    matches!(
+        tpe,
+        MysqlType::Time | MysqlType::Date | MysqlType::DateTime | MysqlType::Timestamp
+    )
 }
 
 // The time that a value holds, where its type is one of times.

@@ -11,11 +11,11 @@ ghost use Rattle.readings.specs.Nulls.{nullable};
 use crate::date_and_time::MysqlTime;
 use crate::date_and_time::time_value;
 use crate::primitives::integer_value;
-use numeric::I32Target;
-use numeric::I64Target;
 use crate::value::MysqlValue;
 use mysql::Fault;
 use mysql::Refusal;
+use numeric::I32Target;
+use numeric::I64Target;
 
 // A type that values are read as.
 pub trait FromSql: Sized {

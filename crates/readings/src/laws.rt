@@ -3,5 +3,4 @@ ghost use Rattle.readings.specs.Laws.{Whole-reads-back};
 
 pub fn whole_floats_read_back()
     ensures { λ _. ⌜ Whole-reads-back ⌝ }
-{
-}
+{}

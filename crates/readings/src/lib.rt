@@ -19,6 +19,5 @@ pub use floats::f32_to_i64;
 pub use floats::f64_to_i64;
 pub use laws::whole_floats_read_back;
 pub use primitives::integer_value;
-pub use value::FromNeBytes;
 pub use value::MysqlValue;
 pub use value::NumericRepresentation;

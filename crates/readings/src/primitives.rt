@@ -4,14 +4,14 @@ ghost use Rattle.mysql.specs.Answers.{through, next};
 ghost use lib.IntN.{pos};
 ghost use Rattle.numeric.specs.Targets.{in-range};
 ghost use Rattle.readings.specs.Integers.{integer};
-use numeric::decimal_to_integer;
 use crate::floats::f32_to_i64;
 use crate::floats::f64_to_i64;
-use numeric::Target;
 use crate::value::MysqlValue;
 use crate::value::NumericRepresentation;
 use mysql::Fault;
 use mysql::Refusal;
+use numeric::Target;
+use numeric::decimal_to_integer;
 
 // The whole number that a value stands for, where the target holds it.
 pub fn integer_value<T: Target>(value: &MysqlValue) -> Result<T, Fault>

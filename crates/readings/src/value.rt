@@ -62,25 +62,27 @@ impl<'a> MysqlValue<'a> {
         ensures { λ r. ⌜ r ≡ representation (now (self .entry) .tpe) (now (self .entry) .raw) ⌝ }
     {
         let raw = self.raw;
-        Ok(match self.tpe {
-            MysqlType::Tiny => NumericRepresentation::Tiny(read(raw)?),
-            MysqlType::UnsignedTiny => NumericRepresentation::UnsignedTiny(read(raw)?),
-            MysqlType::Short => NumericRepresentation::Small(read(raw)?),
-            MysqlType::UnsignedShort => NumericRepresentation::UnsignedSmall(read(raw)?),
-            MysqlType::Long => NumericRepresentation::Medium(read(raw)?),
-            MysqlType::UnsignedLong => NumericRepresentation::UnsignedMedium(read(raw)?),
-            MysqlType::LongLong => NumericRepresentation::Big(read(raw)?),
-            MysqlType::UnsignedLongLong => NumericRepresentation::UnsignedBig(read(raw)?),
-            MysqlType::Float => NumericRepresentation::Float(read(raw)?),
-            MysqlType::Double => NumericRepresentation::Double(read(raw)?),
-            MysqlType::Numeric => NumericRepresentation::Decimal(raw),
-            _ => return Err(Fault::new(Refusal::WrongType)),
-        })
+        Ok(
+            match self.tpe {
+                MysqlType::Tiny => NumericRepresentation::Tiny(read(raw)?),
+                MysqlType::UnsignedTiny => NumericRepresentation::UnsignedTiny(read(raw)?),
+                MysqlType::Short => NumericRepresentation::Small(read(raw)?),
+                MysqlType::UnsignedShort => NumericRepresentation::UnsignedSmall(read(raw)?),
+                MysqlType::Long => NumericRepresentation::Medium(read(raw)?),
+                MysqlType::UnsignedLong => NumericRepresentation::UnsignedMedium(read(raw)?),
+                MysqlType::LongLong => NumericRepresentation::Big(read(raw)?),
+                MysqlType::UnsignedLongLong => NumericRepresentation::UnsignedBig(read(raw)?),
+                MysqlType::Float => NumericRepresentation::Float(read(raw)?),
+                MysqlType::Double => NumericRepresentation::Double(read(raw)?),
+                MysqlType::Numeric => NumericRepresentation::Decimal(raw),
+                _ => return Err(Fault::new(Refusal::WrongType)),
+            },
+        )
     }
 }
 
 // A number that lies in so many bytes, lowest first.
-pub trait FromNeBytes: Sized {
+pub(crate) trait FromNeBytes: Sized {
     // How many bytes it takes.
     const WIDTH: usize;
 
@@ -99,7 +101,7 @@ pub trait FromNeBytes: Sized {
 }
 
 // The number in the first bytes, where there are enough.
-pub fn read<T: FromNeBytes>(raw: &[u8]) -> Result<T, Fault>
+pub(crate) fn read<T: FromNeBytes>(raw: &[u8]) -> Result<T, Fault>
     ensures { λ r. ⌜ r ≡ through (T·FromNeBytes .value) (prefix (T·FromNeBytes .width) (now (raw .entry))) ⌝ }
 {
     if raw.len() < T::needed() {
@@ -216,7 +218,16 @@ pub impl FromNeBytes for i64 as I64FromNeBytes {
     }
 
     fn from_ne_prefix(bytes: &[u8]) -> i64 {
-        i64::from_ne_bytes([bytes[0], bytes[1], bytes[2], bytes[3], bytes[4], bytes[5], bytes[6], bytes[7]])
+        i64::from_ne_bytes([
+            bytes[0],
+            bytes[1],
+            bytes[2],
+            bytes[3],
+            bytes[4],
+            bytes[5],
+            bytes[6],
+            bytes[7],
+        ])
     }
 }
 
@@ -232,7 +243,16 @@ pub impl FromNeBytes for u64 as U64FromNeBytes {
     }
 
     fn from_ne_prefix(bytes: &[u8]) -> u64 {
-        u64::from_ne_bytes([bytes[0], bytes[1], bytes[2], bytes[3], bytes[4], bytes[5], bytes[6], bytes[7]])
+        u64::from_ne_bytes([
+            bytes[0],
+            bytes[1],
+            bytes[2],
+            bytes[3],
+            bytes[4],
+            bytes[5],
+            bytes[6],
+            bytes[7],
+        ])
     }
 }
 

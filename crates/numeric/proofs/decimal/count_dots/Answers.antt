@@ -13,8 +13,8 @@ loop-b-again c =
     let s = c .args .bytes .now in
     let i = c .loop-b .b-index in
     elim (c .if-b-eq46 .came) [
-      then-b-eq46 w ↦ (omega (arith, w .count-is), omega (arith, w .count-is, c .loop-b .inv .1, dots-more s i (omega arith) (w .if-b-eq46 .taken)))
-    | else-b-eq46 w ↦ (omega (arith, w .count-is), omega (arith, w .count-is, c .loop-b .inv .1, dots-same s i (omega arith) (w .if-b-eq46 .left)))
+      | then-b-eq46 w ↦ (omega (arith, w .count-is), omega (arith, w .count-is, c .loop-b .inv .1, dots-more s i (omega arith) (w .if-b-eq46 .taken)))
+      | else-b-eq46 w ↦ (omega (arith, w .count-is), omega (arith, w .count-is, c .loop-b .inv .1, dots-same s i (omega arith) (w .if-b-eq46 .left)))
     ]
 
 pub returns : need.returns

@@ -30,4 +30,4 @@ returns g c =
     let f : SFits w64 z = search needs in
     c .narrow .ensures ∙ ap (in-range h) (toZ-ofZ w64 z f) ∙ text-in h (before-dot b) z l k ∙ sym k
     ∙ sym (ap (λ (t : Bool). cond t (cond (leb (dots b) 1) (integer-text h (before-dot b)) (Err (refused ManyDots))) (Err (refused NotUtf8))) u
-      ∙ ap (λ (t : Bool). cond t (integer-text h (before-dot b)) (Err (refused ManyDots))) d)
+    ∙ ap (λ (t : Bool). cond t (integer-text h (before-dot b)) (Err (refused ManyDots))) d)

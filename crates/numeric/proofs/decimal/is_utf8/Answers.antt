@@ -11,6 +11,6 @@ returns-in-Ok c = sym (in-grammar (c .args .bytes .now) (c .in-Ok .ensures tt .c
 pub returns-in-Err : need.returns-in-Err
 returns-in-Err c =
     ⊎-elim
-      (λ e. absurd (c .in-Err .ensures tt .cases .0 (from-grammar (c .args .bytes .now) e)))
-      (λ e. sym e)
-      (cases-bool (utf8 (c .args .bytes .now)))
+    (λ e. absurd (c .in-Err .ensures tt .cases .0 (from-grammar (c .args .bytes .now) e)))
+    (λ e. sym e)
+    (cases-bool (utf8 (c .args .bytes .now)))

@@ -36,11 +36,12 @@ returns-in-rest-b·2 c =
     sym (c .loop-b .inv .1 ∙ other-from (c .args .limit) (c .loop-b .sum) (c .loop-b .b-index) (c .args .text .now) (omega arith) (λ e. omega arith) (inr (omega arith)))
 
 pub loop-b-again : need.loop-b-again
-loop-b-again c =
-    (omega arith,
-     c .loop-b .inv .1
-     ∙ digit-from (c .args .limit) (c .loop-b .sum) (c .loop-b .b-index) (c .args .text .now) (omega arith) (omega arith) (omega arith)
-     ∙ ap (λ (d : ℕ). after (c .args .limit) (10 * c .loop-b .sum + d) (drop (c .loop-b .b-index + 1) (c .args .text .now))) (sym (c .from-digit .ensures)))
+loop-b-again c = (
+  omega arith,
+  c .loop-b .inv .1
+      ∙ digit-from (c .args .limit) (c .loop-b .sum) (c .loop-b .b-index) (c .args .text .now) (omega arith) (omega arith) (omega arith)
+      ∙ ap (λ (d : ℕ). after (c .args .limit) (10 * c .loop-b .sum + d) (drop (c .loop-b .b-index + 1) (c .args .text .now))) (sym (c .from-digit .ensures)),
+)
 
 pub returns : need.returns
 returns c = sym (c .loop-b .inv .1 ∙ end-from (c .args .limit) (c .loop-b .sum) (c .loop-b .b-index) (c .args .text .now) (omega arith) (omega arith))
