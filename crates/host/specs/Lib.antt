@@ -1,0 +1,4 @@
+pub mod Fields
+pub mod Meanings
+pub mod Calls
+pub mod Wholes
