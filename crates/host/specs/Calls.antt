@@ -47,15 +47,18 @@ carried m k (b ∷ bs) = m .carries k (b .code) && carried m (suc k) bs
 abbrev pub bind-error : Meaning → List BindRecord → ℕ
 bind-error m bs =
     cond (eqb (length bs) (length (m .columns)) && in-order 0 bs)
-      (cond (carried m 0 bs) 0 unsupported-type)
-      invalid-parameter
+    (cond (carried m 0 bs) 0 unsupported-type)
+    invalid-parameter
 
 abbrev pub bound-list : ℕ → List BindRecord → Option (List BindRecord) → Option (List BindRecord)
 bound-list e new old = cond (eqb e 0) (Some new) old
 
 abbrev pub after-bind : Meaning → List BindRecord → Meaning
 after-bind m bs = record {
-  columns = m .columns; carries = m .carries; coming = m .coming; current = m .current;
+  columns = m .columns;
+  carries = m .carries;
+  coming = m .coming;
+  current = m .current;
   bound = bound-list (bind-error m bs) bs (m .bound);
   error = bind-error m bs;
 }

@@ -4,7 +4,6 @@ use mathlib.Core.Bool.{Bool, true, false}
 use mathlib.Core.List.{List}
 use Prim.Native.Nat.{ℕ, _^_, _<_}
 use lib.ListN.{length}
-use Rattle.std.specs.shelf.Lists.{All}
 use Rattle.std.specs.declared.option.Option.{Option}
 use Rattle.std.specs.declared.option.Option.the-variants.{Some, None}
 use Rattle.mysql.specs.Types.{size-of}
@@ -21,4 +20,4 @@ HeldAt None lost bs = (lost ≡ false) × (length bs < 2 ^ 32)
 
 abbrev pub FieldAt : ℕ → Field → Type 0
 FieldAt code null = Unit {0}
-FieldAt code (held lost bs) = HeldAt (size-of code) lost bs × All (λ b. b < 256) bs
+FieldAt code (held lost bs) = HeldAt (size-of code) lost bs

@@ -5,6 +5,7 @@ ghost use lib.Dec.{eqb};
 ghost use lib.ListN.{length, getD};
 ghost use Rattle.host.specs.Meanings.{Meaning, Formed, no-column};
 ghost use Rattle.host.specs.Calls.{bind-error, after-bind, allows, Fetches, Parts, freed};
+
 mod records;
 mod whole;
 
@@ -46,7 +47,13 @@ pub trait Host {
         ensures { λ r. ⌜ Fetches r (meaning (now (self .entry))) (meaning (now (self .exit))) (now (reports .entry)) (now (reports .exit)) (now (arena .entry)) (now (arena .exit)) ⌝ };
 
     // Writes a column of the current row once more, from an offset on, into a part of the arena.
-    fn fetch_column(&mut self, column: usize, offset: usize, part: &mut [u8], report: &mut Report) -> bool
+    fn fetch_column(
+        &mut self,
+        column: usize,
+        offset: usize,
+        part: &mut [u8],
+        report: &mut Report,
+    ) -> bool
         ensures { λ r. ⌜ Parts r (meaning (now (self .entry))) (meaning (now (self .exit))) column offset (now (report .entry)) (now (report .exit)) (now (part .entry)) (now (part .exit)) ⌝ };
 
     // Lets go of the result: no event, no row and no bind list is left.

@@ -29,7 +29,7 @@ returns-in-Row g c =
       rest = w .rest;
       next = sym (ap (λ (x : Meaning). x .coming) e) ∙ w .next;
       whole = subst P q (λ k l.
-        let t = none-truncated (w .fields) 0 (w .places) (w .marked) k l in
-        let u = subst (λ (n : ℕ). truncates (field-of (w .fields) n (getD (w .places) k no-record)) (getD (w .places) k no-record .capacity) ≡ false) (zero-add k) t in
-        field-whole (field-of (w .fields) k (getD (w .places) k no-record)) (getD (w .places) k no-record) (getD (c .fetch .last .reports) k no-report) (c .fetch .last .arena) u (w .reported k l) (w .stands k l));
+          let t = none-truncated (w .fields) 0 (w .places) (w .marked) k l in
+          let u = subst (λ (n : ℕ). truncates (field-of (w .fields) n (getD (w .places) k no-record)) (getD (w .places) k no-record .capacity) ≡ false) (zero-add k) t in
+          field-whole (field-of (w .fields) k (getD (w .places) k no-record)) (getD (w .places) k no-record) (getD (c .fetch .last .reports) k no-report) (c .fetch .last .arena) u (w .reported k l) (w .stands k l));
     }
