@@ -4,4 +4,6 @@ mod readings_of;
 #[cfg(test)]
 mod tapes;
 #[cfg(test)]
+mod trays;
+#[cfg(test)]
 mod types;
