@@ -35,21 +35,21 @@ impl Tray {
 }
 
 // Whether a row is null.
-pub(crate) fn is_null_row(k: usize) -> bool
+fn is_null_row(k: usize) -> bool
     ensures { λ r. ⌜ r ≡ eqb (k % 5) 3 ⌝ }
 {
     k % 5 == 3
 }
 
 // How many bytes a row has. The remainder first keeps the product small.
-pub(crate) fn row_size(k: usize) -> usize
+fn row_size(k: usize) -> usize
     ensures { λ r. ⌜ r ≡ size-of-row k ⌝ }
 {
     37 * (k % 200) % 200
 }
 
 // Writes bytes of a row, from its byte `offset` on, to the part's front, as many as fit.
-pub(crate) fn write_bytes(k: usize, offset: usize, count: usize, part: &mut [u8])
+fn write_bytes(k: usize, offset: usize, count: usize, part: &mut [u8])
     requires { ⌜ count ≤ length (now part) ⌝ }
     ensures written { λ _. ⌜ ((j : ℕ) → j < count → getD (now (part .exit)) j 0 ≡ (k + (offset + j)) % 256) ⌝ }
     ensures untouched { λ _. ⌜ ((p : ℕ) → count ≤ p → getD (now (part .exit)) p 0 ≡ getD (now (part .entry)) p 0) ⌝ }
