@@ -1,4 +1,6 @@
 // Counts what hosts have to come: `count FILE..` counts the events of tapes, `--tray N` the rows of a tray of N rows.
+#![tactic(auto)]
+
 mod count;
 
 use anyhow::anyhow;

@@ -1,4 +1,6 @@
 // What a client library is to a session: a trait, whose ghost member says what an implementation means.
+#![tactic(auto)]
+
 ghost use Rattle.std.specs.Prelude.{◌≡◌, true, false, length, ◌==◌, slice_index_or};
 ghost use Rattle.host.specs.Meanings.{Meaning, Formed, no_column};
 ghost use Rattle.host.specs.Calls.{bind_error, after_bind, allows, Fetches, Parts, freed};

@@ -1,3 +1,5 @@
 // Examples of hosts from the documents, as tests.
+#![tactic(auto)]
+
 #[cfg(test)]
 mod tapes_hosted;

@@ -9,7 +9,6 @@ const Y: bool = true;
 const N: bool = false;
 
 // A row for each type, by its number, and a column for each named code: 0 to 19, and then 245 to 255.
-// The rows are laid out by hand, one a line.
 const KEPT: [[bool; 31]; 20] = [
     [
         Y, Y, Y, Y, Y, Y, N, N, Y, Y, N, N, N, N, N, N, N, N, N, N, N, Y, N, N, N, N, N, N, N, N, N,

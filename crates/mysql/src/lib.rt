@@ -1,4 +1,6 @@
 // Refusals and types of the rows that a MySQL client library returns.
+#![tactic(auto)]
+
 mod backend;
 mod bind;
 mod fault;

@@ -1,4 +1,6 @@
 // Numeric text as an integer of a target type.
+#![tactic(auto)]
+
 mod decimal;
 mod laws;
 mod target;

@@ -1,4 +1,6 @@
 // Lists of calls, played over a new session and one arena; and the law of what they answer.
+#![tactic(auto)]
+
 mod calls;
 mod playing;
 mod steps;

@@ -1,4 +1,6 @@
 // What a typed reading makes of a value's bytes and type.
+#![tactic(auto)]
+
 mod date_and_time;
 mod deserialize;
 mod floats;

@@ -1,4 +1,6 @@
 // Recorded results, read from their bytes.
+#![tactic(auto)]
+
 mod event;
 mod field;
 mod recording;

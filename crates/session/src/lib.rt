@@ -1,4 +1,6 @@
 // A session over a host: it opens a result, fetches its rows into one arena, and shows their columns.
+#![tactic(auto)]
+
 mod answers;
 mod closing;
 mod fetching;

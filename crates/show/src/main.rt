@@ -1,4 +1,6 @@
 // Shows what tapes hold: `show FILE..` prints the columns and the events of each.
+#![tactic(auto)]
+
 mod print;
 
 use anyhow::anyhow;

@@ -1,4 +1,6 @@
 // A count of what any host has to come.
+#![tactic(auto)]
+
 mod count;
 mod records;
 mod totals;

@@ -1,4 +1,6 @@
 // Recorded results as a host.
+#![tactic(auto)]
+
 mod columns;
 mod events;
 mod hosted;

@@ -1,4 +1,6 @@
 // A host of rows that are made by rule, to try a session on.
+#![tactic(auto)]
+
 mod hosted;
 mod rows;
 mod tray;

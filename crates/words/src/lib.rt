@@ -1,5 +1,7 @@
 // Refusals in words, for people who read what a program prints. It is a crate of its own since a type's `Display` is proved
 // again with each edit that its crate must refuse.
+#![tactic(auto)]
+
 use mysql::{Fault, Layer, NO_COLUMN, Refusal};
 use std::fmt;
 

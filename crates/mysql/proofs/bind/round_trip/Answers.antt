@@ -29,6 +29,6 @@ back Enum = refl
 
 pub returns : goal.returns
 returns c =
-    c.try-from.ensures
+    c.try_from.ensures
     ∙ ap (λ (p : ℕ × ℕ). type_of p.0 p.1) c.from.ensures
     ∙ back c.args.tpe
