@@ -4,12 +4,12 @@ use Rattle.tray.proofs.hosted.TrayHost.fetch.Goals as goal
 
 pub returns-then-report : goal.returns-then-report
 returns-then-report c =
-    row_came c.args.self.now c.args.reports.now c.args.arena.now c.write-field-report.new.part c.write-field-report.result c.min-left.result (c.from-k.result + 1) true
-    (sym c.can-fetch.ensures ∙ c.if-not-can-fetch.false) c.min-left.ensures c.if-left-eq0.false (ap (λ n. n + 1) c.from-k.ensures) (search rules) (search rules) _ (search rules)
-    c.write-field-report.ensures.reported c.write-field-report.ensures.stands c.if-report.true
+    row_came c.args.self.now c.args.reports.now c.args.arena.now c.write_field-report.new.part c.write_field-report.result c.min-left.result (c.from-k.result + 1) true
+    (sym c.can_fetch.ensures ∙ c.if-not-can_fetch.false) c.min-left.ensures c.if-left-eq0.false (ap (λ n. n + 1) c.from-k.ensures) (search rules) (search rules) _ (search rules)
+    c.write_field-report.ensures.reported c.write_field-report.ensures.stands c.if-report.true
 
 pub returns-else-report : goal.returns-else-report
 returns-else-report c =
-    row_came c.args.self.now c.args.reports.now c.args.arena.now c.write-field-report.new.part c.write-field-report.result c.min-left.result (c.from-k.result + 1) false
-    (sym c.can-fetch.ensures ∙ c.if-not-can-fetch.false) c.min-left.ensures c.if-left-eq0.false (ap (λ n. n + 1) c.from-k.ensures) (search rules) (search rules) _ (search rules)
-    c.write-field-report.ensures.reported c.write-field-report.ensures.stands c.if-report.false
+    row_came c.args.self.now c.args.reports.now c.args.arena.now c.write_field-report.new.part c.write_field-report.result c.min-left.result (c.from-k.result + 1) false
+    (sym c.can_fetch.ensures ∙ c.if-not-can_fetch.false) c.min-left.ensures c.if-left-eq0.false (ap (λ n. n + 1) c.from-k.ensures) (search rules) (search rules) _ (search rules)
+    c.write_field-report.ensures.reported c.write_field-report.ensures.stands c.if-report.false

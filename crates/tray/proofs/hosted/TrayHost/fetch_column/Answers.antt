@@ -14,7 +14,7 @@ returns c =
       at = t.record;
       bound = record_bound t c.args.column c.if-not-self.false c.if-column-ne0.false;
       after = refl;
-      reported = c.write-field.ensures.reported;
-      stands = c.write-field.ensures.stands;
+      reported = c.write_field.ensures.reported;
+      stands = c.write_field.ensures.stands;
       as_long = search rules;
     }
