@@ -11,8 +11,8 @@ returns c =
     let part = c.write_bytes.new.part in
     let hs = c.row_size-size.ensures in
     let long : length part ≡ n = search rules in
-    let b : eqb (k % 5) 3 ≡ false = sym c.is_null_row.ensures ∙ c.if-is-null-row.false in
+    let b : eqb (k % 5) 3 ≡ false = sym c.is_null_row.ensures ∙ c.if-is_null_row.false in
     record {
-      reported = reported k offset n size _ part hs refl refl (ap (λ x. ltb x c.saturating-sub-rest.result) long ∙ ap (ltb n) c.saturating-sub-rest.ensures) (eqb (k % 5) 3) b;
-      stands = stands k offset n size (record { length = 0; is_null = false; is_truncated = false }) part hs (λ j l. c.write_bytes.ensures.written j (omega (arith, c.min-count.ensures, c.saturating-sub-rest.ensures))) (eqb (k % 5) 3) b;
+      reported = reported k offset n size _ part hs refl refl (ap (λ x. ltb x c.saturating_sub-rest.result) long ∙ ap (ltb n) c.saturating_sub-rest.ensures) (eqb (k % 5) 3) b;
+      stands = stands k offset n size (record { length = 0; is_null = false; is_truncated = false }) part hs (λ j l. c.write_bytes.ensures.written j (omega (arith, c.min-count.ensures, c.saturating_sub-rest.ensures))) (eqb (k % 5) 3) b;
     }
