@@ -174,7 +174,7 @@ module _ {H : Type 0} (m m' : Meaning) (s s' : Session H) (a a' : List ℕ) (lon
   there b = fetch_at (ideal_of m s a) (cond b (Some (pairs_of s.table)) None)
 
   -- by whether the session is opened
-  fetch_by : (b : Bool) → s.opened ≡ b → r ≡ session.fetch-answer s a m.coming → (passes s a ≡ false → NotFetched s s' a a') → (passes s a ≡ true → AfterFetch m.coming r m m' s s' a a')
+  fetch_by : (b : Bool) → s.opened ≡ b → r ≡ session.fetch_answer s a m.coming → (passes s a ≡ false → NotFetched s s' a a') → (passes s a ≡ true → AfterFetch m.coming r m m' s s' a a')
       → (r ≡ fetch_due (cond b (Some (pairs_of s.table)) None) (length a) m.coming) × (ideal_of m' s' a' ≡ there b) × (s'.opened ≡ true → s'.table.room ≡ length a')
   fetch_by false o e n w =
       let k = n (stopped m s a ready o) in (
@@ -190,14 +190,14 @@ module _ {H : Type 0} (m m' : Meaning) (s s' : Session H) (a a' : List ℕ) (lon
       (due, t.0 ∙ still, λ p. t.1 ∙ ready.room o ∙ sym long)
 
   -- from what a fetch ensures
-  pub fetch_opened : r ≡ session.fetch-answer s a m.coming → (passes s a ≡ false → NotFetched s s' a a') → (passes s a ≡ true → AfterFetch m.coming r m m' s s' a a') → s'.opened ≡ s.opened
+  pub fetch_opened : r ≡ session.fetch_answer s a m.coming → (passes s a ≡ false → NotFetched s s' a a') → (passes s a ≡ true → AfterFetch m.coming r m m' s s' a a') → s'.opened ≡ s.opened
   fetch_opened e n w = sym (is_some s'.opened (pairs_of s'.table)) ∙ ap (λ (x : State). option_is_some x.bound) (fetch_by s.opened refl e n w).1 ∙ there_opened s.opened
     where
       there_opened : (b : Bool) → option_is_some (there b).bound ≡ s.opened
       there_opened true = is_some s.opened (pairs_of s.table)
       there_opened false = is_some s.opened (pairs_of s.table)
 
-  pub fetch_moved : r ≡ session.fetch-answer s a m.coming → (passes s a ≡ false → NotFetched s s' a a') → (passes s a ≡ true → AfterFetch m.coming r m m' s s' a a')
+  pub fetch_moved : r ≡ session.fetch_answer s a m.coming → (passes s a ≡ false → NotFetched s s' a a') → (passes s a ≡ true → AfterFetch m.coming r m m' s s' a a')
       → Moved (ideal_of m s a) fetch (fetch_answered r) m' s' a'
   fetch_moved e n w =
       let f = fetch_by s.opened refl e n w in

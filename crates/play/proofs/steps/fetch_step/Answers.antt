@@ -21,6 +21,6 @@ returns g c =
     record {
       opened = fetch_opened m m' s s' a a' long same_host ready sound holds c.fetch.result (e.answer ready.sound) e.unchecked (e.after ready.sound);
       moved =
-          subst (λ (r : Answer). Moved (ideal_of m s a) fetch r m' s' a') (sym c.fetch-answer.ensures)
+          subst (λ (r : Answer). Moved (ideal_of m s a) fetch r m' s' a') (sym c.fetch_answer.ensures)
           (fetch_moved m m' s s' a a' long same_host ready sound holds c.fetch.result (e.answer ready.sound) e.unchecked (e.after ready.sound));
     }

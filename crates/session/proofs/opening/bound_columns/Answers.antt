@@ -10,7 +10,7 @@ pub returns-in-Err : goal.returns-in-Err
 returns-in-Err g c =
     let cs = (g.H.Host.meaning c.args.host.now).columns in
     let i = c.loop-i.i in
-    let l : i < length cs = omega (arith, c.column-count-i-end.ensures) in
+    let l : i < length cs = omega (arith, c.column_count-i-end.ensures) in
     refused_here c.args.wanted.now cs i c.loop-i.pairs l c.in-Err.fault (sym c.in-Err.ensures) c.loop-i.invariant.1 ∙ ap Err (sym c.at.ensures)
 
 pub loop-i-preserved : goal.loop-i-preserved
@@ -18,11 +18,11 @@ loop-i-preserved g c =
     let cs = (g.H.Host.meaning c.args.host.now).columns in
     let i = c.loop-i.i in
     let few = (g.H.Host.formed c.args.host.now).few in
-    let l : i < length cs = omega (arith, c.column-count-i-end.ensures) in
+    let l : i < length cs = omega (arith, c.column_count-i-end.ensures) in
     let m : i < length c.loop-i.pairs = omega (arith, c.loop-i.invariant.0) in
     (simp length-set c.loop-i.invariant.0, so_far_more c.args.wanted.now cs i c.loop-i.pairs l (c.in-Ok.code, c.in-Ok.flags) m (sym c.in-Ok.ensures) c.loop-i.invariant.1)
 
 pub returns : goal.returns
 returns g c =
     let cs = (g.H.Host.meaning c.args.host.now).columns in
-    all_bound c.args.wanted.now cs c.loop-i.pairs c.loop-i.i (omega (arith, c.column-count-i-end.ensures)) c.loop-i.invariant.1
+    all_bound c.args.wanted.now cs c.loop-i.pairs c.loop-i.i (omega (arith, c.column_count-i-end.ensures)) c.loop-i.invariant.1

@@ -18,11 +18,11 @@ returns-then-not-bind g c = λ as_many short.
     let o = c.in-Some.ensures in
     let n = length c.args.arena.now in
     let fits : opening_size c.args.pairs.now ≤ n = omega (arith, o.ends, o.same_room, end_in_room t) in
-    let same = front_is t.count c.bind-records-records.result (binds t) c.bind-records-records.ensures in
+    let same = front_is t.count c.bind_records-records.result (binds t) c.bind_records-records.ensures in
     let host = refused_host m m' c.args.pairs.now n t _ c.bind.result o as_many fits same c.bind.ensures.granted c.bind.ensures.after c.if-not-bind.true in
     let due = refused_due m m' c.args.pairs.now n t _ c.bind.result o as_many fits same c.bind.ensures.granted c.bind.ensures.after c.if-not-bind.true in
     let error : m'.error ≡ 2036 = ap (λ (x : Meaning). x.error) host in
-    let is : c.host.result ≡ host_failed 2036 = c.host.ensures ∙ ap host_failed (c.error-number.ensures ∙ error) in
+    let is : c.host.result ≡ host_failed 2036 = c.host.ensures ∙ ap host_failed (c.error_number.ensures ∙ error) in
     record {
       due = due ∙ ap Err (sym is);
       host = host ∙ ap (λ (f : Fault). with_error (error_after f m.error) m) (sym is);
@@ -37,7 +37,7 @@ returns g c = λ as_many short.
     let o = c.in-Some.ensures in
     let n = length c.args.arena.now in
     let fits : opening_size c.args.pairs.now ≤ n = omega (arith, o.ends, o.same_room, end_in_room t) in
-    let same = front_is t.count c.bind-records-records.result (binds t) c.bind-records-records.ensures in
+    let same = front_is t.count c.bind_records-records.result (binds t) c.bind_records-records.ensures in
     record {
       due = granted_due m m' c.args.pairs.now n t _ c.bind.result o as_many fits same c.bind.ensures.granted c.bind.ensures.after c.if-not-bind.false;
       table = o;

@@ -33,5 +33,5 @@ returns c =
     let h = c.loop-report.invariant.3 in
     let n : c.loop-report.nulls ≡ capped (c.args.totals.nulls + null_reports rs) = omega arith in
     let b : c.loop-report.bytes ≡ capped (c.args.totals.bytes + byte_reports rs) = omega arith in
-    let r = c.saturating-add.ensures in
+    let r = c.saturating_add.ensures in
     cc

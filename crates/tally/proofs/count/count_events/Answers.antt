@@ -9,7 +9,7 @@ loop-reports-preserved-in-Row g c =
     let m = g.H.Host.meaning c.loop-reports.host in
     let m₀ = g.H.Host.meaning c.args.host.now in
     let w = c.in-Row.ensures in
-    subst (λ (t : Totals). Going t (g.H.Host.meaning c.fetch.new.self) m₀) (sym c.add-row-totals.ensures)
+    subst (λ (t : Totals). Going t (g.H.Host.meaning c.fetch.new.self) m₀) (sym c.add_row-totals.ensures)
     (going_row c.loop-reports.totals m m₀ c.loop-reports.invariant (g.H.Host.meaning c.fetch.new.self) w.fields w.rest w.places c.fetch.new.reports w.next w.bound w.after
     (w.as_many_reports ∙ c.loop-reports.auto.reports ∙ c.requires.reported) w.reported)
 
@@ -18,7 +18,7 @@ loop-reports-preserved-in-Truncated g c =
     let m = g.H.Host.meaning c.loop-reports.host in
     let m₀ = g.H.Host.meaning c.args.host.now in
     let w = c.in-Truncated.ensures in
-    subst (λ (t : Totals). Going t (g.H.Host.meaning c.fetch.new.self) m₀) (sym c.add-row-totals-in-Truncated.ensures)
+    subst (λ (t : Totals). Going t (g.H.Host.meaning c.fetch.new.self) m₀) (sym c.add_row-totals-in-Truncated.ensures)
     (going_row c.loop-reports.totals m m₀ c.loop-reports.invariant (g.H.Host.meaning c.fetch.new.self) w.fields w.rest w.places c.fetch.new.reports w.next w.bound w.after
     (w.as_many_reports ∙ c.loop-reports.auto.reports ∙ c.requires.reported) w.reported)
 
@@ -36,4 +36,4 @@ loop-reports-preserved g c =
     let m₀ = g.H.Host.meaning c.args.host.now in
     let ok = still_allowed c.loop-reports.totals m m₀ (length c.loop-reports.reports) c.loop-reports.invariant (c.loop-reports.auto.reports ∙ c.requires.reported) in
     let w = failed_came m _ _ _ [] _ ok c.in-Failed.ensures in
-    going_failure c.loop-reports.totals m m₀ c.loop-reports.invariant _ w.number w.rest c.saturating-add.result w.next c.saturating-add.ensures w.after
+    going_failure c.loop-reports.totals m m₀ c.loop-reports.invariant _ w.number w.rest c.saturating_add.result w.next c.saturating_add.ensures w.after

@@ -4,5 +4,5 @@ use Rattle.tally.proofs.count.tally.Goals as goal
 
 pub returns-then-not-bind : goal.returns-then-not-bind
 returns-then-not-bind g c =
-    no_count (g.H.Host.meaning c.args.host.now) _ (take c.column-count-width.result c.own-records-records.result)
-    (ap (λ n. take n c.own-records-records.result) c.column-count-width.ensures ∙ c.own-records-records.ensures) c.if-not-bind.ensures.after c.if-not-bind.ensures.granted
+    no_count (g.H.Host.meaning c.args.host.now) _ (take c.column_count-width.result c.own_records-records.result)
+    (ap (λ n. take n c.own_records-records.result) c.column_count-width.ensures ∙ c.own_records-records.ensures) c.if-not-bind.ensures.after c.if-not-bind.ensures.granted

@@ -10,7 +10,7 @@ returns g c =
     let cs = (g.H.Host.meaning c.args.host.now).columns in
     let few = (g.H.Host.formed c.args.host.now).few in
     let xs = c.loop-i.records in
-    let e = c.column-count-i-end.ensures in
+    let e = c.column_count-i-end.ensures in
     let n : length (take (length cs) xs) ≡ length cs = simp length-take (omega (arith, c.loop-i.invariant.0)) in
     ext_get_or no_record (take (length cs) xs) (own_records cs) (n ∙ sym (length-map cs own_record))
     (λ i h. get_or-take (length cs) xs i no_record (omega arith) ∙ c.loop-i.invariant.1 i (omega arith) ∙ sym (get_or-map own_record cs i no_column no_record (omega arith)))

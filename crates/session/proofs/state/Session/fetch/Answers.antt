@@ -3,10 +3,10 @@ use Rattle.session.proofs.state.Session.fetch.Goals as goal
 
 pub returns : goal.returns
 returns g c =
-    let w = c.populate-row-buffers.ensures in
-    let s = c.args.self.now in let s' = c.populate-row-buffers.new.self in
-    let a = c.args.arena.now in let a' = c.populate-row-buffers.new.arena in
-    let x = c.populate-row-buffers.result in
+    let w = c.populate_row_buffers.ensures in
+    let s = c.args.self.now in let s' = c.populate_row_buffers.new.self in
+    let a = c.args.arena.now in let a' = c.populate_row_buffers.new.arena in
+    let x = c.populate_row_buffers.result in
     record {
       answer = w.answer;
       unchecked = w.unchecked;

@@ -5,12 +5,12 @@ use Rattle.session.proofs.state.Session.open.Goals as goal
 
 pub returns : goal.returns
 returns g c =
-    let s = c.args.self.now in let s' = c.bind-to.new.self in
+    let s = c.args.self.now in let s' = c.bind_to.new.self in
     let m = g.H.Host.meaning s.host in let m' = g.H.Host.meaning s'.host in
-    let a = c.args.arena.now in let a' = c.bind-to.new.arena in
+    let a = c.args.arena.now in let a' = c.bind_to.new.arena in
     let due = opening s.opened (length a) m.carries c.args.wanted.now m.columns in
     record {
-      after = c.bind-to.ensures;
-      sound = still_sound m m' s s' a a' c.bind-to.result due (opening_says s.opened (length a) m.carries c.args.wanted.now m.columns) c.bind-to.ensures;
-      holds = still_holds m m' s s' a a' c.bind-to.result due c.bind-to.ensures;
+      after = c.bind_to.ensures;
+      sound = still_sound m m' s s' a a' c.bind_to.result due (opening_says s.opened (length a) m.carries c.args.wanted.now m.columns) c.bind_to.ensures;
+      holds = still_holds m m' s s' a a' c.bind_to.result due c.bind_to.ensures;
     }

@@ -15,7 +15,7 @@ returns-in-Failed g c =
     record {
       answer = λ sound. ⊎_elim
           (λ w. not_both _ (allowed m s sound a opened long _ (search rules)) w.refused)
-          (λ w. failure_answer m s sound a opened long m' _ _ c.fetch.new.arena w c.host.result c.error-number.result c.host.ensures c.error-number.ensures)
+          (λ w. failure_answer m s sound a opened long m' _ _ c.fetch.new.arena w c.host.result c.error_number.result c.host.ensures c.error_number.ensures)
           c.in-Failed.ensures;
       unchecked = λ p. not_both (passes s a) (passes_both s a opened long) p;
       after = λ sound p. ⊎_elim

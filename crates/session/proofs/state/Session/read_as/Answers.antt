@@ -8,8 +8,8 @@ pub returns : goal.returns
 returns g c =
     let s = c.args.self.now in let k = c.args.column in let a = c.args.arena.now in
     record {
-      exact = c.look-as.ensures;
+      exact = c.look_as.ensures;
       row = λ sound holds p.
           let q = and_parts s.opened (eqb (length a) s.table.room) p in
-          c.look-as.ensures ∙ ap (read_as g.T.FromSql.reads k) (reads_row (g.H.Host.meaning s.host) s a k sound holds (eqb-true (length a) s.table.room q.1) p);
+          c.look_as.ensures ∙ ap (read_as g.T.FromSql.reads k) (reads_row (g.H.Host.meaning s.host) s a k sound holds (eqb-true (length a) s.table.room q.1) p);
     }
