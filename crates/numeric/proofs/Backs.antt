@@ -1,16 +1,14 @@
 -- The laws over what was written.
 -- Assumes nothing.
-use Rattle.std.proofs.Common.{◌≡◌, ℕ, zero, suc, ◌+◌, ◌-◌, ◌*◌, ◌/◌, ◌^◌, ◌<◌, ◌≤◌, Bool, true, false, cond, ◌&&◌, eqb, ltb, leb, ◌⊎◌, List, [], ◌∷◌, ◌++◌, length, ℤ, pos, negsuc, neg_ℤ, Some, None, Ok, Err, decimal as written, Option, sym, refl, ap, ◌∙◌, subst, inl, inr, ⊎_elim, arith, rules}
+use Rattle.std.proofs.Common.{◌≡◌, ℕ, suc, ◌+◌, ◌-◌, ◌^◌, ◌<◌, ◌≤◌, true, false, cond, ◌&&◌, eqb, ltb, leb, List, [], ◌∷◌, ◌++◌, length, ℤ, pos, negsuc, Some, None, Ok, Err, decimal as written, sym, refl, ap, ◌∙◌, subst, inl, inr, ⊎_elim, arith, rules}
 use Rattle.std.proofs.lemmas.Str.Parse.{IsNumeralModel, numerals_by_fold}
 use Rattle.std.proofs.lemmas.Fmt.{digits_decimal, digits_value-decimal, decimal_nonempty}
-use Rattle.std.proofs.lemmas.Bool.{le-leb, lt-ltb, ltb-true, ltb-false, eq-eqb, ne_eqb, and_parts, cases_Bool}
+use Rattle.std.proofs.lemmas.Bool.{le-leb, ltb-true, ne_eqb, and_parts, cases_Bool}
 use Rattle.std.proofs.lemmas.Bool.Decides.{nat_tests}
-use Rattle.std.specs.Fmt.{signed_decimal}
 use Rattle.mysql.specs.Faults.{refused}
 use Rattle.mysql.specs.declared.fault.Refusal.TheVariants.{OutOfRange, NotUtf8, ManyDots}
 use Rattle.numeric.specs.Utf8.{utf8}
 use Rattle.numeric.specs.Decimals.{dots, before_dot, digit, digits, numeral, value_from, natural, positive, negative, integer_text, decimal}
-use Rattle.numeric.specs.Targets.{in_range}
 use Rattle.numeric.specs.Laws.{Fraction, PrintedReadsBack}
 use Rattle.numeric.proofs.Characters.{add_1, is_one}
 

@@ -9,6 +9,6 @@ use Rattle.numeric.specs.Targets.{in_range}
 abbrev pub Fraction : List ℕ → Type 0
 Fraction f = (f ≡ []) ⊎ ((t : List ℕ) × (f ≡ dot ∷ t) × (utf8 t ≡ true) × (dots t ≡ 0))
 
--- A number of the target's range, printed in decimal as `{}` does (`signed`), with any fraction after it, reads back as that number.
+-- A number of the target's range, printed in decimal as `{}` does (`signed_decimal`), with any fraction after it, reads back as that number.
 abbrev pub PrintedReadsBack : Type 0
 PrintedReadsBack = (half : ℕ) (z : ℤ) (f : List ℕ) → 0 < half → half ≤ 2 ^ 63 → in_range half z ≡ Ok z → Fraction f → decimal half (signed_decimal z ++ f) ≡ Ok z

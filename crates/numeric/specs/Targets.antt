@@ -1,5 +1,5 @@
 -- The range of a target: an integer type holds the numbers from -half up to half - 1.
-use Rattle.std.specs.Prelude.{ℕ, Bool, cond, ℤ, pos, negsuc, Ok, Err, Result, nat_lt}
+use Rattle.std.specs.Prelude.{ℕ, cond, ℤ, pos, negsuc, Ok, Err, Result, nat_lt}
 use Rattle.mysql.specs.declared.fault.Fault.{Fault}
 use Rattle.mysql.specs.declared.fault.Refusal.TheVariants.{OutOfRange}
 use Rattle.mysql.specs.Faults.{refused}

@@ -2,14 +2,14 @@ use Rattle.std.proofs.Common.{ℕ, ◌+◌, ◌*◌, drop, sym, ap, ◌∙◌, i
 use Rattle.numeric.proofs.Scan.{after, end_from, dot_from, digit_from, full_from, other_from, begins, none_at_none, none_at_other}
 use Rattle.numeric.proofs.decimal.magnitude.Goals as goal
 
-pub returns-in-default : goal.returns-in-default
-returns-in-default c = sym (none_at_none c.args.limit c.args.text.now (search rules))
+pub returns-in_default : goal.returns-in_default
+returns-in_default c = sym (none_at_none c.args.limit c.args.text.now (search rules))
 
-pub returns-in-default·2 : goal.returns-in-default·2
-returns-in-default·2 c = sym (none_at_other c.args.limit c.args.text.now (search rules) (inl (search rules)))
+pub returns-in_default-2 : goal.returns-in_default-2
+returns-in_default-2 c = sym (none_at_other c.args.limit c.args.text.now (search rules) (inl (search rules)))
 
-pub returns-in-default·3 : goal.returns-in-default·3
-returns-in-default·3 c = sym (none_at_other c.args.limit c.args.text.now (search rules) (inr (search rules)))
+pub returns-in_default-3 : goal.returns-in_default-3
+returns-in_default-3 c = sym (none_at_other c.args.limit c.args.text.now (search rules) (inr (search rules)))
 
 pub loop-b-init : goal.loop-b-init
 loop-b-init c = (omega arith, begins c.args.limit c.args.text.now (search rules) (search rules) (search rules))
@@ -22,12 +22,12 @@ pub returns-then-sum-limit : goal.returns-then-sum-limit
 returns-then-sum-limit c =
     sym (c.loop-b.invariant.1 ∙ full_from c.args.limit c.loop-b.sum c.loop-b.b-index c.args.text.now (omega arith) (omega arith) (omega arith) (omega arith))
 
-pub returns-in-default-b : goal.returns-in-default-b
-returns-in-default-b c =
+pub returns-in_default-b : goal.returns-in_default-b
+returns-in_default-b c =
     sym (c.loop-b.invariant.1 ∙ other_from c.args.limit c.loop-b.sum c.loop-b.b-index c.args.text.now (omega arith) (λ e. omega arith) (inl (omega arith)))
 
-pub returns-in-default-b·2 : goal.returns-in-default-b·2
-returns-in-default-b·2 c =
+pub returns-in_default-b-2 : goal.returns-in_default-b-2
+returns-in_default-b-2 c =
     sym (c.loop-b.invariant.1 ∙ other_from c.args.limit c.loop-b.sum c.loop-b.b-index c.args.text.now (omega arith) (λ e. omega arith) (inr (omega arith)))
 
 pub loop-b-preserved : goal.loop-b-preserved
