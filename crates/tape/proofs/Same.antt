@@ -1,14 +1,14 @@
 -- The way back undoes the format, and takes nothing else for a tape.
 -- Assumes nothing.
-use Rattle.std.proofs.Common.{◌≡◌, ℕ, zero, suc, ◌+◌, ◌-◌, ◌*◌, ◌/◌, ◌%◌, ◌^◌, ◌<◌, ◌≤◌, min, Bool, true, false, cond, not, eqb, leb, List, [], ◌∷◌, ◌++◌, length, get_or, take, drop, Some, None, Option, sym, refl, ap, ◌∙◌, subst, arith}
+use Rattle.std.proofs.Common.{◌≡◌, ℕ, zero, suc, ◌+◌, ◌*◌, ◌/◌, ◌%◌, ◌^◌, ◌<◌, ◌≤◌, Bool, true, false, cond, not, eqb, leb, List, [], ◌∷◌, ◌++◌, length, get_or, take, drop, Some, None, Option, sym, refl, ap, ◌∙◌, subst, arith}
 use Rattle.std.proofs.lemmas.List.{append_assoc, append-nil, take_at, drop_at, length-append, length-take, take-append-drop}
 use Rattle.std.proofs.lemmas.Bool.{le-leb, eq-eqb, leb-true, eqb-true, eqb-false, ne_eqb, not-true, not_from_false}
 use Rattle.std.specs.List.{flat_map, AllByRecursion as All}
 use Rattle.mysql.specs.declared.bind.Column.{Column}
 use Rattle.mysql.specs.Types.{size_of}
-use Rattle.tape.specs.Format.{Field, null, held, Event, row, failure, Contents, two, four, tag, field_bytes, event_bytes, column_bytes, tape_bytes, HeldAt, FieldAt, RowOf, EventOf, ColumnFits, TapeOf}
-use Rattle.tape.specs.Decode.{Taken, taken, broken, next, given, take2, take4, fits, cut, take_held, field_by, take_field, take_fields, take_failure, event_by, take_event, take_events, take_column, take_columns, ended, take_body, take_tape}
-use Rattle.tape.proofs.Steps.{never, given_is, given_split, Split, next_split, moved}
+use Rattle.tape.specs.Format.{Field, null, held, Event, row, failure, Contents, two, four, tag, field_bytes, event_bytes, column_bytes, HeldAt, FieldAt, RowOf, EventOf, ColumnFits, TapeOf}
+use Rattle.tape.specs.Decode.{Taken, taken, next, given, take2, take4, fits, cut, take_held, take_field, take_fields, take_event, take_events, take_column, take_columns, ended, take_body, take_tape}
+use Rattle.tape.proofs.Steps.{never, given_is, given_split, next_split, moved}
 
 -- from the format to the way back
 

@@ -4,9 +4,9 @@ use Rattle.std.proofs.Common.{◌≡◌, ℕ, zero, suc, ◌+◌, ◌-◌, ◌*�
 use Rattle.std.proofs.lemmas.Bool.{le-leb, lt-leb}
 use Rattle.mysql.specs.declared.bind.Column.{Column}
 use Rattle.tape.specs.Format.{Field, Event, Contents}
-use Rattle.tape.specs.Decode.{Taken, taken, broken, next, given, left, take2, take_field, take_event, take_events, take_column, take_columns, ended, take_body, take_tape}
+use Rattle.tape.specs.Decode.{Taken, taken, broken, next, given, left, take2, take_field, take_event, take_events, take_columns, ended, take_body, take_tape}
 use Rattle.tape.specs.Views.{columns_in, fields_in, events_in}
-use Rattle.tape.proofs.Steps.{never, given_is, given_not, Split, next_split}
+use Rattle.tape.proofs.Steps.{given_is, given_not, next_split}
 use Rattle.tape.proofs.Walked.{left_some, left_none}
 
 pub columns_at : (w : ℕ) (bs : List ℕ) → w * 5 ≤ length bs → take_columns w bs ≡ taken (columns_in (take (w * 5) bs)) (drop (w * 5) bs)

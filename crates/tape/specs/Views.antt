@@ -1,5 +1,5 @@
 -- What the code's views of a tape's bytes stand for.
-use Rattle.std.specs.Prelude.{ℕ, zero, suc, ◌+◌, ◌*◌, Bool, List, [], ◌∷◌, Some, None, Option}
+use Rattle.std.specs.Prelude.{ℕ, zero, suc, ◌+◌, ◌*◌, List, [], ◌∷◌, Some, None, Option}
 use Rattle.std.specs.Borrow.{Bor}
 use Rattle.tape.specs.declared.field.Field.{Field as View}
 use Rattle.tape.specs.declared.field.Field.TheVariants as view

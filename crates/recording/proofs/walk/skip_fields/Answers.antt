@@ -12,4 +12,4 @@ loop-column-preserved c =
     let h = columns_first c.loop-column.others.now k after c.in-Some.ensures in
     c.loop-column.invariant
     ∙ ap (λ cs. left (take_fields cs bs)) h.0
-    ∙ fields_more k (columns_in after) bs _ c.in-ok-next.next.now c.in-ok-next.ensures
+    ∙ fields_more k (columns_in after) bs _ c.in_ok-next.next.now c.in_ok-next.ensures

@@ -6,4 +6,4 @@ use Rattle.recording.proofs.walk.take_column.Goals as goal
 pub returns : goal.returns
 returns c =
     column_code c.args.bytes.now (search rules) (search rules)
-    ∙ ap (λ t. next t (λ n r. taken (record { code = get_or c.args.bytes.now 0 0; flags = n }) r)) c.in-ok-flags.ensures
+    ∙ ap (λ t. next t (λ n r. taken (record { code = get_or c.args.bytes.now 0 0; flags = n }) r)) c.in_ok-flags.ensures

@@ -9,14 +9,14 @@ loop-init c =
     let k : c.args.count ≡ c.args.count - 0 = omega arith in
     ap (λ n. left (take_events (columns_in c.args.columns.now) n c.args.bytes.now)) k
 
-pub returns-in-err-next : goal.returns-in-err-next
-returns-in-err-next c =
+pub returns-in_err-next : goal.returns-in_err-next
+returns-in_err-next c =
     let cs = columns_in c.args.columns.now in
     let bs = c.loop.rest.now in
     let m = c.args.count - (c.loop.counter + 1) in
     let k : c.args.count - c.loop.counter ≡ suc m = omega arith in
-    rw c.from-residual.ensures
-    (c.loop.invariant ∙ ap (λ (n : ℕ). left (take_events cs n bs)) k ∙ events_stop cs m bs c.in-err-next.ensures)
+    rw c.from_residual.ensures
+    (c.loop.invariant ∙ ap (λ (n : ℕ). left (take_events cs n bs)) k ∙ events_stop cs m bs c.in_err-next.ensures)
 
 pub loop-preserved : goal.loop-preserved
 loop-preserved c =
@@ -24,7 +24,7 @@ loop-preserved c =
     let bs = c.loop.rest.now in
     let m = c.args.count - (c.loop.counter + 1) in
     let k : c.args.count - c.loop.counter ≡ suc m = omega arith in
-    c.loop.invariant ∙ ap (λ (n : ℕ). left (take_events cs n bs)) k ∙ events_more cs m bs _ c.in-ok-next.next.now c.in-ok-next.ensures
+    c.loop.invariant ∙ ap (λ (n : ℕ). left (take_events cs n bs)) k ∙ events_more cs m bs _ c.in_ok-next.next.now c.in_ok-next.ensures
 
 pub returns : goal.returns
 returns c =

@@ -1,6 +1,6 @@
-use Rattle.std.proofs.Common.{◌≡◌, ap, ◌∙◌}
+use Rattle.std.proofs.Common.{ap, ◌∙◌}
 use Rattle.tape.specs.Decode.{left, take_fields}
-use Rattle.tape.specs.Views.{columns_in, field_of}
+use Rattle.tape.specs.Views.{columns_in}
 use Rattle.tape.proofs.Walked.{columns_first, fields_more}
 use Rattle.tape.proofs.walk.skip_fields.Goals as goal
 
@@ -12,4 +12,4 @@ loop-column-preserved c =
     let h = columns_first c.loop-column.others.now k after c.in-Some.ensures in
     c.loop-column.invariant
     ∙ ap (λ cs. left (take_fields cs bs)) h.0
-    ∙ fields_more k (columns_in after) bs _ c.in-ok-next.next.now c.in-ok-next.ensures
+    ∙ fields_more k (columns_in after) bs _ c.in_ok-next.next.now c.in_ok-next.ensures

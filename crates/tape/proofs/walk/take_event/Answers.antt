@@ -3,29 +3,29 @@ use Rattle.tape.specs.Views.{columns_in}
 use Rattle.tape.proofs.Walked.{tail, event_tag, row_taken, row_broken, failure_taken, failure_zero, failure_broken}
 use Rattle.tape.proofs.walk.take_event.Goals as goal
 
-pub returns-in-err-rest : goal.returns-in-err-rest
-returns-in-err-rest c =
-    rw c.from-residual.ensures
+pub returns-in_err-rest-in-0 : goal.returns-in_err-rest-in-0
+returns-in_err-rest-in-0 c =
+    rw c.from_residual.ensures
     (event_tag (columns_in c.args.columns.now) 0 c.args.bytes.now (search rules) (search rules)
-    ∙ row_broken (columns_in c.args.columns.now) (tail c.args.bytes.now) c.in-err-rest.ensures)
+    ∙ row_broken (columns_in c.args.columns.now) (tail c.args.bytes.now) c.in_err-rest-in-0.ensures)
 
-pub returns-in-err-number : goal.returns-in-err-number
-returns-in-err-number c =
-    rw c.from-residual-in-err-number.ensures
+pub returns-in_err-number-in-1 : goal.returns-in_err-number-in-1
+returns-in_err-number-in-1 c =
+    rw c.from_residual-in_err-number-in-1.ensures
     (event_tag (columns_in c.args.columns.now) 1 c.args.bytes.now (search rules) (search rules)
-    ∙ failure_broken (tail c.args.bytes.now) c.in-err-number.ensures)
+    ∙ failure_broken (tail c.args.bytes.now) c.in_err-number-in-1.ensures)
 
-pub returns-then-number-eq-NO-FAILURE : goal.returns-then-number-eq-NO-FAILURE
-returns-then-number-eq-NO-FAILURE c =
+pub returns-then-number-eq-NO_FAILURE : goal.returns-then-number-eq-NO_FAILURE
+returns-then-number-eq-NO_FAILURE c =
     event_tag (columns_in c.args.columns.now) 1 c.args.bytes.now (search rules) (search rules)
-    ∙ failure_zero (tail c.args.bytes.now) c.in-ok-number.number c.in-ok-number.rest.now c.in-ok-number.ensures c.if-number-eq-NO-FAILURE.true
+    ∙ failure_zero (tail c.args.bytes.now) c.in_ok-number-in-1.number c.in_ok-number-in-1.rest.now c.in_ok-number-in-1.ensures c.if-number-eq-NO_FAILURE.true
 
-pub returns-in-ok-rest : goal.returns-in-ok-rest
-returns-in-ok-rest c =
+pub returns-in_ok-rest-in-0 : goal.returns-in_ok-rest-in-0
+returns-in_ok-rest-in-0 c =
     event_tag (columns_in c.args.columns.now) 0 c.args.bytes.now (search rules) (search rules)
-    ∙ row_taken (columns_in c.args.columns.now) (tail c.args.bytes.now) c.in-ok-rest.rest.now c.in-ok-rest.ensures
+    ∙ row_taken (columns_in c.args.columns.now) (tail c.args.bytes.now) c.in_ok-rest-in-0.rest.now c.in_ok-rest-in-0.ensures
 
-pub returns-else-number-eq-NO-FAILURE : goal.returns-else-number-eq-NO-FAILURE
-returns-else-number-eq-NO-FAILURE c =
+pub returns-else-number-eq-NO_FAILURE : goal.returns-else-number-eq-NO_FAILURE
+returns-else-number-eq-NO_FAILURE c =
     event_tag (columns_in c.args.columns.now) 1 c.args.bytes.now (search rules) (search rules)
-    ∙ failure_taken (tail c.args.bytes.now) c.in-ok-number.number c.in-ok-number.rest.now c.in-ok-number.ensures c.if-number-eq-NO-FAILURE.false
+    ∙ failure_taken (tail c.args.bytes.now) c.in_ok-number-in-1.number c.in_ok-number-in-1.rest.now c.in_ok-number-in-1.ensures c.if-number-eq-NO_FAILURE.false

@@ -6,7 +6,7 @@ pub returns-in-0 : goal.returns-in-0
 returns-in-0 c = field_tag c.args.code 0 c.args.bytes.now (search rules) (search rules)
 
 pub returns-in-1 : goal.returns-in-1
-returns-in-1 c = field_tag c.args.code 1 c.args.bytes.now (search rules) (search rules) ∙ c.take-held.ensures
+returns-in-1 c = field_tag c.args.code 1 c.args.bytes.now (search rules) (search rules) ∙ c.take_held.ensures
 
 pub returns-in-2 : goal.returns-in-2
-returns-in-2 c = field_tag c.args.code 2 c.args.bytes.now (search rules) (search rules) ∙ c.take-held-in-2.ensures
+returns-in-2 c = field_tag c.args.code 2 c.args.bytes.now (search rules) (search rules) ∙ c.take_held-in-2.ensures

@@ -3,4 +3,4 @@ use Rattle.tape.proofs.Walked.{take4_at}
 use Rattle.tape.proofs.walk.take_u32.Goals as goal
 
 pub returns : goal.returns
-returns c = take4_at c.args.bytes.now c.from-le-bytes.result (search rules) c.from-le-bytes.ensures
+returns c = take4_at c.args.bytes.now c.from_le_bytes.result (search rules) c.from_le_bytes.ensures

@@ -8,7 +8,7 @@ use Rattle.recording.proofs.recording.Recording.new.Goals as goal
 pub returns-in-Some : goal.returns-in-Some
 returns-in-Some c =
     let b = c.args.bytes.now in
-    tape_sound b (contents c.in-Some.recording) [] (All-from_get_or (λ x. x < 256) b 0 (λ i l. (c.type-inv.bytes i).fits)) c.in-Some.ensures
+    tape_sound b (contents c.in-Some.recording) [] (All-from_get_or (λ x. x < 256) b 0 (λ i l. (c.type_inv.bytes i).fits)) c.in-Some.ensures
 
 pub returns-in-None : goal.returns-in-None
 returns-in-None c = (

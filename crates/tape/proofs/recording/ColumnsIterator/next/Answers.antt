@@ -7,7 +7,7 @@ use Rattle.std.proofs.Common.{rules}
 
 pub returns : goal.returns
 returns c =
-    let k = c.in-ok-column.column in
-    let after = c.in-ok-column.rest.now in
-    let h = columns_first c.args.self.now.bytes.now k after c.in-ok-column.ensures in
+    let k = c.in_ok-column.column in
+    let after = c.in_ok-column.rest.now in
+    let h = columns_first c.args.self.now.bytes.now k after c.in_ok-column.ensures in
     record { steps = h.0; goes = firm ((tt, tt, shorter (columns_in after) k h.0)) (λ h. search rules) }

@@ -1,5 +1,4 @@
 use Rattle.std.proofs.Common.{refl, arith}
-use Rattle.tape.specs.Views.{columns_in}
 use Rattle.tape.proofs.Whole.{columns_few}
 use Rattle.tape.proofs.recording.Recording.columns.Goals as goal
 

@@ -1,14 +1,13 @@
-use Rattle.std.proofs.Common.{◌≡◌, ℕ, ◌<◌, [], sym, ◌∙◌, arith}
+use Rattle.std.proofs.Common.{◌≡◌, ℕ, ◌<◌, [], arith}
 use Rattle.std.proofs.ByRecursion.{All-from_get_or}
 use Rattle.tape.specs.Recordings.{contents}
 use Rattle.tape.proofs.Same.{tape_back, tape_sound}
-use Rattle.mysql.specs.declared.fault.Fault.{Fault}
 use Rattle.tape.proofs.recording.Recording.new.Goals as goal
 
 pub returns-in-Some : goal.returns-in-Some
 returns-in-Some c =
     let b = c.args.bytes.now in
-    tape_sound b (contents c.in-Some.recording) [] (All-from_get_or (λ x. x < 256) b 0 (λ i l. (c.type-inv.bytes i).fits)) c.in-Some.ensures
+    tape_sound b (contents c.in-Some.recording) [] (All-from_get_or (λ x. x < 256) b 0 (λ i l. (c.type_inv.bytes i).fits)) c.in-Some.ensures
 
 pub returns-in-None : goal.returns-in-None
 returns-in-None c = (
