@@ -1,7 +1,7 @@
 -- What a host is: a client library that holds one result. Its meaning has the columns, the codes that each column can be asked for
 -- at, the events to come, the current row or none, the bind list or none, and the error number.
 use Rattle.std.specs.Prelude.{◌≡◌, ℕ, ◌^◌, ◌<◌, ◌≤◌, Bool, true, List, [], ◌∷◌, length, get_or, Some, None, Option}
-use Rattle.std.specs.List.{AllByRecursion as All}
+use Rattle.std.specs.List.{AllByRecursion}
 use Rattle.mysql.specs.declared.bind.Column.{Column}
 use Rattle.host.specs.declared.records.BindRecord.{BindRecord}
 use Rattle.host.specs.Fields.{Field, FieldAt}
@@ -45,7 +45,7 @@ CurrentFits m (Some r) = RowFits m r
 
 pub record Formed (m : Meaning) : Type 0 where
   pub few : length m.columns ≤ 64
-  pub columns_fit : All ColumnFits m.columns
-  pub coming_fit : All (EventFits m) m.coming
+  pub columns_fit : AllByRecursion ColumnFits m.columns
+  pub coming_fit : AllByRecursion (EventFits m) m.coming
   pub current_fit : CurrentFits m m.current
   pub error_fits : m.error < 65536

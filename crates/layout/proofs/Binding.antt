@@ -9,7 +9,7 @@ use Rattle.host.specs.Calls.{no_record as no_bind}
 use Rattle.layout.specs.declared.record.ColumnRecord.{ColumnRecord}
 use Rattle.layout.specs.declared.table.ColumnTable.{ColumnTable}
 use Rattle.layout.specs.Columns.{no_record, bind_of, bytes_by, span, total}
-use Rattle.layout.specs.Tables.{col, start, end, binds, SamePlaces}
+use Rattle.layout.specs.Tables.{col, end, binds, SamePlaces}
 use Rattle.layout.proofs.Spans.{inside}
 
 -- places that follow one another are in order

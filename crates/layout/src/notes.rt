@@ -1,6 +1,6 @@
 // What was reported of the columns, noted in the table, and what is asked of it.
 ghost use Rattle.std.specs.Prelude.{◌≡◌, ◌≤◌, true, false, length, take, MatchOption};
-ghost use Rattle.layout.specs.Tables.{NotedAt, Noted, SamePlaces, AllFit, NoneLost, LowestLost, binds, end as end_of_lem};
+ghost use Rattle.layout.specs.Tables.{NotedAt, Noted, SamePlaces, AllFit, NoneLost, LowestLost, binds, end as end_of};
 
 use crate::record::ColumnRecord;
 use crate::table::ColumnTable;
@@ -88,7 +88,7 @@ impl ColumnTable {
 
     // Where the places end.
     pub fn end(&self) -> usize
-        ensures { result ≡ end_of_lem self.now }
+        ensures { result ≡ end_of self.now }
     {
         if self.count == 0 {
             return 0;

@@ -15,7 +15,7 @@ use Rattle.host.specs.Calls.{Reported, Stands}
 use Rattle.layout.specs.declared.record.ColumnRecord.{ColumnRecord}
 use Rattle.layout.specs.declared.table.ColumnTable.{ColumnTable}
 use Rattle.layout.specs.Columns.{no_record, wanted, Fits, Lost}
-use Rattle.layout.specs.Tables.{no_pair, col, start, binds, sum_of, need, Noted, SamePlaces, AllFit, NoneLost, LowestLost}
+use Rattle.layout.specs.Tables.{no_pair, col, binds, sum_of, need, Noted, SamePlaces, AllFit, NoneLost, LowestLost}
 use Rattle.layout.proofs.Binding.{sized_at}
 use Rattle.layout.proofs.Wanting.{fits_need, fits_wide, fits_sum}
 use Rattle.rows.specs.declared.answers.Fetch.TheVariants as fetch

@@ -9,28 +9,28 @@ use Rattle.rows.specs.Settling.{PartGot, column_field}
 use Rattle.rows.proofs.Columned.{bound_at}
 use Rattle.rows.proofs.Wholes.{WholeTo, whole_none, whole_skip, whole_more, over_inside, same_start}
 use Rattle.rows.proofs.settling.fetch_missing.Goals as goal
-use Rattle.rows.proofs.settling.fetch_missing.Goals.{then-is-over+in-Some, else-is-over}
+use Rattle.rows.proofs.settling.fetch_missing.Goals.{then-is_over+in-Some, else-is_over}
 
-pub overflow-add-start : goal.overflow-add-start
-overflow-add-start g c =
+pub overflow_add-start : goal.overflow_add-start
+overflow_add-start g c =
     let old = c.args.old.now in let new = c.args.new.now in let t = c.loop-i.new in let i = c.loop-i.i in
-    let o = c.is-over.ensures.yes c.if-is-over.true in
+    let o = c.is_over.ensures.yes c.if-is_over.true in
     let h = over_inside old new c.requires.grown i c.loop-i-test.true o in
     let z : start t i + (col old i).capacity ≤ length c.args.arena.now = omega (arith, h, c.requires.room, o.longer, same_start new t c.loop-i.invariant.0 i (omega (arith, c.requires.grown.laid.count))) in
     search rules
 
-pub overflow-add-start-then-is-over : goal.overflow-add-start-then-is-over
-overflow-add-start-then-is-over g c =
+pub overflow_add-start-then-is_over : goal.overflow_add-start-then-is_over
+overflow_add-start-then-is_over g c =
     let old = c.args.old.now in let new = c.args.new.now in let t = c.loop-i.new in let i = c.loop-i.i in
-    let o = c.is-over.ensures.yes c.if-is-over.true in
+    let o = c.is_over.ensures.yes c.if-is_over.true in
     let h = over_inside old new c.requires.grown i c.loop-i-test.true o in
     let z : start t i + (col old i).length ≤ length c.args.arena.now = omega (arith, h, c.requires.room, same_start new t c.loop-i.invariant.0 i (omega (arith, c.requires.grown.laid.count))) in
     search rules
 
-pub fetch-part-requires : goal.fetch-part-requires
-fetch-part-requires g c =
+pub fetch_part-requires : goal.fetch_part-requires
+fetch_part-requires g c =
     let old = c.args.old.now in let new = c.args.new.now in let t = c.loop-i.new in let i = c.loop-i.i in
-    let o = c.is-over.ensures.yes c.if-is-over.true in
+    let o = c.is_over.ensures.yes c.if-is_over.true in
     let h = over_inside old new c.requires.grown i c.loop-i-test.true o in
     let z : start t i + (col old i).length ≤ length c.loop-i.arena = omega (arith, h, c.requires.room, same_start new t c.loop-i.invariant.0 i (omega (arith, c.requires.grown.laid.count))) in
     record { forward = omega (arith, o.longer); within = z }
@@ -41,15 +41,15 @@ loop-i-init g c = (
   λ row half. whole_none c.args.old.now c.args.new.now c.requires.grown (g.H.Host.meaning c.args.host.now) row c.args.arena.now half,
 )
 
-pub returns-in-default : goal.returns-in-default
-returns-in-default g c = record {
+pub returns-in_default : goal.returns-in_default
+returns-in_default g c = record {
   places = c.loop-i.invariant.0;
   came = λ row half.
       let old = c.args.old.now in let i = c.loop-i.i in
       let m = g.H.Host.meaning c.args.host.now in
       let w = c.loop-i.invariant.1 row half in
       let n = g.H.Host.meaning c.loop-i.host in
-      c.in-default.ensures.came row (bind_of (col old i))
+      c.in_default.ensures.came row (bind_of (col old i))
       (ap (λ (x : Meaning). x.current) w.host ∙ half.current.current)
       (ap (λ (x : Meaning). Rattle.host.specs.Calls.record_of x i) w.host ∙ bound_at m row old half.current i c.loop-i-test.true);
 }
@@ -65,12 +65,12 @@ loop-i-preserved g c =
     let b = c.loop-i.arena in
     let sp = c.loop-i.invariant.0 in
     let st = same_start new t sp i (omega (arith, gr.laid.count)) in
-    elim c.if-is-over.branch [
-      | then-is-over+in-Some w ↦
-          let o : Over (col old i) = c.is-over.ensures.yes w.if-is-over.true in
+    elim c.if-is_over.branch [
+      | then-is_over+in-Some w ↦
+          let o : Over (col old i) = c.is_over.ensures.yes w.if-is_over.true in
           let u = w.note.new.self in
-          let b' = w.fetch-part.new.arena in
-          let n' = g.H.Host.meaning w.fetch-part.new.host in
+          let b' = w.fetch_part.new.arena in
+          let n' = g.H.Host.meaning w.fetch_part.new.host in
           let report = w.in-Some.report in (
             subst (λ (z : ColumnTable). SamePlaces new z) (sym w.new-is) (same_places new t u sp w.note.ensures.places),
             λ row half.
@@ -79,21 +79,21 @@ loop-i-preserved g c =
                 (ap (λ (x : Meaning). x.current) to.host ∙ half.current.current)
                 (ap (λ (x : Meaning). Rattle.host.specs.Calls.record_of x i) to.host ∙ bound_at m row old half.current i c.loop-i-test.true) in
                 let step = whole_more old new gr m row a half i c.loop-i-test.true n t b to n' u b' report o sp
-                (λ p h. w.fetch-part.ensures.before p (omega (arith, st)))
-                (λ p h. w.fetch-part.ensures.after p (omega (arith, st)))
+                (λ p h. w.fetch_part.ensures.before p (omega (arith, st)))
+                (λ p h. w.fetch_part.ensures.after p (omega (arith, st)))
                 (subst (λ (s : ℕ). PartGot n (column_field row old i) (col old i).capacity report n' (s + (col old i).capacity) (s + (col old i).length) b') st got)
                 w.note.ensures.noted in
-                subst (λ (z : Meaning). WholeTo (i + 1) m row old new a z c.if-is-over.new c.if-is-over.arena) (sym (ap g.H.Host.meaning w.host-is))
-                (subst (λ (z : ColumnTable). WholeTo (i + 1) m row old new a n' z c.if-is-over.arena) (sym w.new-is)
+                subst (λ (z : Meaning). WholeTo (i + 1) m row old new a z c.if-is_over.new c.if-is_over.arena) (sym (ap g.H.Host.meaning w.host-is))
+                (subst (λ (z : ColumnTable). WholeTo (i + 1) m row old new a n' z c.if-is_over.arena) (sym w.new-is)
                 (subst (λ (z : List ℕ). WholeTo (i + 1) m row old new a n' u z) (sym w.arena-is) step)),
           )
-      | else-is-over w ↦
-          let fit = fits_unless_over old i c.loop-i-test.true (c.is-over.ensures.no w.if-is-over.false) in (
+      | else-is_over w ↦
+          let fit = fits_unless_over old i c.loop-i-test.true (c.is_over.ensures.no w.if-is_over.false) in (
             subst (λ (z : ColumnTable). SamePlaces new z) (sym w.new-is) sp,
             λ row half.
                 let step = whole_skip old new gr m row a half i c.loop-i-test.true n t b (c.loop-i.invariant.1 row half) fit in
-                subst (λ (z : Meaning). WholeTo (i + 1) m row old new a z c.if-is-over.new c.if-is-over.arena) (sym (ap g.H.Host.meaning w.host-is))
-                (subst (λ (z : ColumnTable). WholeTo (i + 1) m row old new a n z c.if-is-over.arena) (sym w.new-is)
+                subst (λ (z : Meaning). WholeTo (i + 1) m row old new a z c.if-is_over.new c.if-is_over.arena) (sym (ap g.H.Host.meaning w.host-is))
+                (subst (λ (z : ColumnTable). WholeTo (i + 1) m row old new a n z c.if-is_over.arena) (sym w.new-is)
                 (subst (λ (z : List ℕ). WholeTo (i + 1) m row old new a n t z) (sym w.arena-is) step)),
           )
     ]

@@ -10,9 +10,9 @@ returns-in-Some g c = record {
   came = λ row got.
       let m = g.H.Host.meaning c.args.host.now in
       let t = c.args.table.now in let rs = c.args.reports.now in let a = c.args.arena.now in
-      let u = c.note-all.new.self in
-      let written = c.note-all.ensures.noted (omega (arith, got.as_many)) in
-      refuses_lost m row t rs a got u written c.note-all.ensures.places c.in-Some.k c.at.result c.in-Some.ensures (c.at.ensures ∙ ap (λ (f : Fault). at_column f c.in-Some.k) c.new.ensures);
+      let u = c.note_all.new.self in
+      let written = c.note_all.ensures.noted (omega (arith, got.as_many)) in
+      refuses_lost m row t rs a got u written c.note_all.ensures.places c.in-Some.k c.at.result c.in-Some.ensures (c.at.ensures ∙ ap (λ (f : Fault). at_column f c.in-Some.k) c.new.ensures);
 }
 
 pub returns-then-fits : goal.returns-then-fits
@@ -21,9 +21,9 @@ returns-then-fits g c = record {
   came = λ row got.
       let m = g.H.Host.meaning c.args.host.now in
       let t = c.args.table.now in let rs = c.args.reports.now in let a = c.args.arena.now in
-      let u = c.note-all.new.self in
-      let written = c.note-all.ensures.noted (omega (arith, got.as_many)) in
-      shows_as_it_is m row t rs a got u written c.note-all.ensures.places c.in-default.ensures (c.fits.ensures.yes c.if-fits.true);
+      let u = c.note_all.new.self in
+      let written = c.note_all.ensures.noted (omega (arith, got.as_many)) in
+      shows_as_it_is m row t rs a got u written c.note_all.ensures.places c.in_default.ensures (c.fits.ensures.yes c.if-fits.true);
 }
 
 pub returns-in-Ok : goal.returns-in-Ok
@@ -32,10 +32,10 @@ returns-in-Ok g c = record {
   came = λ row got.
       let m = g.H.Host.meaning c.args.host.now in
       let t = c.args.table.now in let rs = c.args.reports.now in let a = c.args.arena.now in
-      let u = c.note-all.new.self in
-      let written = c.note-all.ensures.noted (omega (arith, got.as_many)) in
-      let grew = c.in-Ok.ensures.came row (in_row m row t rs a got u written c.note-all.ensures.places) c.in-default.ensures in
-      shows_grown m row t rs a got u written c.note-all.ensures.places c.in-default.ensures c.in-Ok.new (g.H.Host.meaning c.grow.new.host) c.grow.new.arena grew;
+      let u = c.note_all.new.self in
+      let written = c.note_all.ensures.noted (omega (arith, got.as_many)) in
+      let grew = c.in-Ok.ensures.came row (in_row m row t rs a got u written c.note_all.ensures.places) c.in_default.ensures in
+      shows_grown m row t rs a got u written c.note_all.ensures.places c.in_default.ensures c.in-Ok.new (g.H.Host.meaning c.grow.new.host) c.grow.new.arena grew;
 }
 
 pub returns-in-Err : goal.returns-in-Err
@@ -44,8 +44,8 @@ returns-in-Err g c = record {
   came = λ row got.
       let m = g.H.Host.meaning c.args.host.now in
       let t = c.args.table.now in let rs = c.args.reports.now in let a = c.args.arena.now in
-      let u = c.note-all.new.self in
-      let written = c.note-all.ensures.noted (omega (arith, got.as_many)) in
-      let stayed = c.in-Err.ensures.came row (in_row m row t rs a got u written c.note-all.ensures.places) c.in-default.ensures in
-      refuses_long m row t rs a got u written c.note-all.ensures.places c.in-default.ensures c.in-Err.fault (g.H.Host.meaning c.grow.new.host) c.grow.new.arena stayed;
+      let u = c.note_all.new.self in
+      let written = c.note_all.ensures.noted (omega (arith, got.as_many)) in
+      let stayed = c.in-Err.ensures.came row (in_row m row t rs a got u written c.note_all.ensures.places) c.in_default.ensures in
+      refuses_long m row t rs a got u written c.note_all.ensures.places c.in_default.ensures c.in-Err.fault (g.H.Host.meaning c.grow.new.host) c.grow.new.arena stayed;
 }

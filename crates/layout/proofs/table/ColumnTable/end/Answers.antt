@@ -2,8 +2,8 @@ use Rattle.std.proofs.Common.{◌-◌, sym, arith}
 use Rattle.layout.proofs.Spans.{inside, end_is}
 use Rattle.layout.proofs.table.ColumnTable.end.Goals as goal
 
-pub overflow-add-result : goal.overflow-add-result
-overflow-add-result c =
+pub overflow_add-result : goal.overflow_add-result
+overflow_add-result c =
     let t = c.args.self.now in let short = t.short in let within = t.within in
     omega (arith, inside t (t.count - 1) (omega arith))
 

@@ -3,12 +3,20 @@ use Rattle.std.proofs.lemmas.List.{length-set}
 use Rattle.layout.proofs.Noting.{note_lies, note_span, note_room, note_sized, note_binds, note_here, note_other}
 use Rattle.layout.proofs.table.ColumnTable.note.Goals as goal
 
-pub invariant-of-self : goal.invariant-of-self
-invariant-of-self c =
+pub invariant_of-self : goal.invariant_of-self
+invariant_of-self c =
     let t = c.args.self.now in let i = c.args.i in let r = c.args.report in
     let cs = t.columns in let s = t.small in let f = t.full in
     let l : i < length cs = omega arith in
-    (s, (simp length-set f, (note_lies cs i r l t.count t.laid, (subst (λ (z : ℕ). z ≤ t.room) (sym (note_span cs i r l t.count)) t.within, (note_room cs i r l t.count t.roomy, (note_sized cs i r l t.count t.sized, (t.short, tt)))))))
+    record {
+      small = s;
+      full = simp length-set f;
+      laid = note_lies cs i r l t.count t.laid;
+      within = subst (λ (z : ℕ). z ≤ t.room) (sym (note_span cs i r l t.count)) t.within;
+      roomy = note_room cs i r l t.count t.roomy;
+      sized = note_sized cs i r l t.count t.sized;
+      short = t.short;
+    }
 
 pub returns-then-i-self : goal.returns-then-i-self
 returns-then-i-self c =

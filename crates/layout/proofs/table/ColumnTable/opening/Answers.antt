@@ -11,14 +11,14 @@ use Rattle.layout.proofs.table.ColumnTable.opening.Goals as goal
 pub returns-then-capacity-room : goal.returns-then-capacity-room
 returns-then-capacity-room c =
     let pairs = c.args.columns.now in let i = c.loop-i.i in
-    record { why = λ few short. omega (arith, c.loop-i.invariant.3, c.least-capacity-capacity.ensures, opening_more pairs i (omega arith), opening_part pairs (i + 1)) }
+    record { why = λ few short. omega (arith, c.loop-i.invariant.3, c.least_capacity-capacity.ensures, opening_more pairs i (omega arith), opening_part pairs (i + 1)) }
 
 pub loop-i-preserved : goal.loop-i-preserved
 loop-i-preserved c =
     let cs = c.loop-i.records in let i = c.loop-i.i in let at = c.loop-i.at in let inv = c.loop-i.invariant in
     let pairs = c.args.columns.now in
-    let n = c.least-capacity-capacity.result in
-    let e : n ≡ first_capacity (size_of (get_or pairs i no_pair).code) = c.least-capacity-capacity.ensures in
+    let n = c.least_capacity-capacity.result in
+    let e : n ≡ first_capacity (size_of (get_or pairs i no_pair).code) = c.least_capacity-capacity.ensures in
     let x : ColumnRecord = record { code = (get_or pairs i no_pair).code; flags = (get_or pairs i no_pair).flags; start = at; capacity = n; length = 0; is_null = false; is_truncated = false } in
     let l : i < length cs = omega (arith, inv.0) in
     let is : x ≡ first_record (get_or pairs i no_pair) at = ap (λ (z : ℕ). record { code = (get_or pairs i no_pair).code; flags = (get_or pairs i no_pair).flags; start = at; capacity = z; length = 0; is_null = false; is_truncated = false }) e in (
