@@ -1,7 +1,7 @@
 -- What a tray means keeps to what every host's meaning keeps to.
 use Rattle.std.specs.Prelude.{◌≡◌, ℕ, zero, suc, ◌+◌, ◌*◌, ◌%◌, ◌^◌, ◌<◌, ◌≤◌, min, Bool, true, false, cond, List, [], ◌∷◌, length, Some, None, Option, ◌==◌, refl}
 use Rattle.std.proofs.Common.{sym, subst, arith}
-use Rattle.std.specs.List.{AllByRecursion as All}
+use Rattle.std.specs.List.{AllByRecursion}
 use Rattle.std.proofs.lemmas.List.FromFn.{length-map-range_with_len}
 use Rattle.std.proofs.lemmas.Bool.{eqb-true, and_parts}
 use Rattle.host.specs.Fields.{Field, null, held, FieldAt}
@@ -21,7 +21,7 @@ row_fits t k column code unsigned l h =
     let e : 253 ≡ code = sym (eqb-true code 253 (and_parts (column == 0) (code == 253) h).1) in
     subst (λ (c : ℕ). FieldAt c (field_of_row k)) e (field_fits k (k % 5 == 3))
 
-rows_fit : (t : Tray) (k n : ℕ) → All (EventFits (means t)) (rows_from k n)
+rows_fit : (t : Tray) (k n : ℕ) → AllByRecursion (EventFits (means t)) (rows_from k n)
 rows_fit t k zero = tt
 rows_fit t k (suc n) = (row_fits t k, rows_fit t (suc k) n)
 
