@@ -1,6 +1,6 @@
 -- The law over whole floats.
 -- Assumes nothing.
-use Rattle.std.proofs.Common.{◌≡◌, ℕ, ◌-◌, ◌*◌, ◌/◌, ◌^◌, ◌≤◌, min, true, false, cond, pos, neg_ℤ, Ok, Err, ap, ◌∙◌, mul-le-mul_right, mul-div_cancel, arith}
+use Rattle.std.proofs.Common.{◌-◌, ◌*◌, ◌/◌, ◌^◌, ◌≤◌, min, true, false, cond, pos, neg_ℤ, Ok, Err, ap, ◌∙◌, mul-le-mul_right, mul-div_cancel, arith}
 use native.Mathlib.Nat.{min-eq_left}
 use Rattle.std.proofs.lemmas.Bool.{le-leb}
 use Rattle.mysql.specs.Faults.{refused}

@@ -1,8 +1,8 @@
 -- What the two tests of a float against the ends -2^63 and 2^63 tell of it, in both formats.
 -- Assumes nothing.
-use Rattle.std.proofs.Common.{◌≡◌, ℕ, suc, ◌+◌, ◌*◌, ◌/◌, ◌^◌, ◌<◌, ◌≤◌, Bool, true, false, cond, ◌&&◌, ◌||◌, eqb, ltb, leb, ℤ, pos, negsuc, Ok, Err, Result, sym, refl, ap, ◌∙◌, true≢false, mul_comm, mul-one, arith, lit<, pow_pos}
+use Rattle.std.proofs.Common.{◌≡◌, ℕ, suc, ◌+◌, ◌*◌, ◌/◌, ◌^◌, ◌<◌, ◌≤◌, Bool, true, false, ◌&&◌, ◌||◌, eqb, ltb, leb, ℤ, pos, negsuc, Ok, Err, Result, sym, refl, ◌∙◌, true≢false, mul_comm, mul-one, arith, lit<, pow_pos}
 use native.Mathlib.Nat.{min-eq_left, div-le_of_le-mul}
-use lib.Ieee.{Float, nan, inf, fin, up, down, le, lt, eq, neg, to_signed, of_bits, of_fields, odd, binary32, binary64}
+use lib.Ieee.{Float, nan, inf, fin, up, down, le, lt, eq, to_signed, of_bits, of_fields, odd, binary32, binary64}
 use lib.Count.{count_trailing_zeros}
 use Rattle.std.proofs.lemmas.Bool.{leb-true}
 use Rattle.std.proofs.lemmas.Bool.Decides.{nat_tests}

@@ -9,7 +9,7 @@ use Rattle.readings.specs.declared.value.NumericRepresentation.{NumericRepresent
 use Rattle.readings.specs.declared.value.NumericRepresentation.TheVariants as number
 use Rattle.mysql.specs.Answers.{through, next}
 use Rattle.readings.specs.Bytes.{prefix}
-use Rattle.readings.specs.Floats.{real, single, double, truncated}
+use Rattle.readings.specs.Floats.{real, truncated}
 use Rattle.numeric.specs.Decimals.{decimal}
 use Rattle.numeric.specs.Targets.{in_range}
 use Rattle.readings.specs.Integers.{integer}

@@ -3,13 +3,13 @@
 -- Assumes nothing.
 use Rattle.std.proofs.Common.{◌≡◌, ℕ, zero, suc, ◌+◌, ◌-◌, ◌*◌, ◌/◌, ◌%◌, ◌^◌, ◌<◌, ◌≤◌, Bool, true, false, cond, eqb, leb, Ok, Err, sym, refl, ap, ◌∙◌, subst, ⊎_elim, mul-le-mul_right, mul_assoc, mul_comm, mul-one, le_of_mul-le-mul_right, arith, pow_pos}
 use native.Mathlib.Nat.{mul-div-mul_right}
-use lib.Ieee.{Float, nan, inf, fin, Format, binary32, binary64, prec, low, hid, ones, top, up, down, odd, of_fields, of_bits}
+use lib.Ieee.{Float, nan, inf, fin, binary32, binary64, low, up, down, odd, of_fields, of_bits}
 use lib.Ieee.Exact.{HasValue, odd_sign}
 use Rattle.std.proofs.lemmas.Bool.{leb-true, le-leb, cases_Bool, both_ways, ne_eqb}
 use Rattle.mysql.specs.Faults.{refused}
 use Rattle.mysql.specs.declared.fault.Refusal.TheVariants.{OutOfRange}
 use Rattle.readings.proofs.Ends.{down_pos}
-use Rattle.readings.specs.Floats.{Real, not_a_number, infinite, finite, real, by_fields, single, double, signed, truncated}
+use Rattle.readings.specs.Floats.{not_a_number, infinite, finite, real, by_fields, single, double, signed, truncated}
 
 -- two fractions of one size have one whole part, and pass or fail a limit together
 module _ (p d a c : ℕ) (hd : 0 < d) (hc : 0 < c) (same : p * c ≡ a * d) where

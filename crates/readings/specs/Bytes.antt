@@ -1,5 +1,5 @@
 -- Bytes as numbers, lowest byte first, and values that need so many bytes.
-use Rattle.std.specs.Prelude.{ℕ, ◌+◌, ◌*◌, Bool, cond, List, [], ◌∷◌, length, take, Ok, Err, Result, nat_le}
+use Rattle.std.specs.Prelude.{ℕ, ◌+◌, ◌*◌, cond, List, [], ◌∷◌, length, take, Ok, Err, Result, nat_le}
 use Rattle.mysql.specs.declared.fault.Fault.{Fault}
 use Rattle.mysql.specs.declared.fault.Refusal.TheVariants.{TooShort}
 use Rattle.mysql.specs.Faults.{refused}

@@ -22,7 +22,7 @@ real (fin s m e) = finite s (m * up e) (down e)
 -- A bit pattern of IEEE 754: a sign bit, then an exponent field, then a fraction field of so many bits, whose numbers are
 -- multiples of 1 over unit. A full exponent field is an infinity, or no number where there is a fraction. An exponent field of 0
 -- stands for the fraction alone, any other for the fraction with a leading 1, times 2 for each above 1.
-abbrev pub by_fields : (fraction-bits all_ones unit : ℕ) → Bool → (exponent fraction : ℕ) → Real
+abbrev pub by_fields : (fraction_bits all_ones unit : ℕ) → Bool → (exponent fraction : ℕ) → Real
 by_fields bits ones unit s x t =
     cond (x == ones) (cond (t == 0) (infinite s) not_a_number)
     (cond (x == 0) (finite s t unit) (finite s ((2 ^ bits + t) * 2 ^ (x - 1)) unit))

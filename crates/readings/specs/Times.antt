@@ -1,7 +1,7 @@
 -- Times: the record MYSQL_TIME of MySQL's C headers, as it lies on 64-bit Linux. It takes 48 bytes: six numbers of four bytes,
 -- from the year to the second, the microseconds in eight, the sign in one (byte 32), and, from bytes 36 and 40 on, the kind
 -- and the time zone's displacement, signed, in four bytes each. Bytes 33 to 35 and 44 to 47 are spare, and are not looked at.
-use Rattle.std.specs.Prelude.{ℕ, Bool, true, false, cond, List, length, take, drop, Ok, Err, Result, ◌==◌, nat_le, slice_index}
+use Rattle.std.specs.Prelude.{ℕ, false, cond, List, length, take, drop, Ok, Err, Result, ◌==◌, nat_le, slice_index}
 use Rattle.std.proofs.Common.{to_z}
 use Rattle.std.specs.Int.{w32}
 use Rattle.mysql.specs.declared.fault.Fault.{Fault}

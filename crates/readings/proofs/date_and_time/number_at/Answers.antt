@@ -5,5 +5,5 @@ use Rattle.readings.proofs.date_and_time.number_at.Goals as goal
 
 pub returns : goal.returns
 returns g c =
-    c.from-ne-prefix.ensures
+    c.from_ne_prefix.ensures
     ∙ ap (λ u. g.T.FromNeBytes.value (le (take g.T.FromNeBytes.width u))) (take_rest c.args.raw.now c.args.at)
