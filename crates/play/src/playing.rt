@@ -61,7 +61,7 @@ fn answer_all<H: Host>(
 }
 
 // A host after calls were played over it, and an answer for each call.
-pub struct Played<H: Host> {
+pub struct Played<H> {
     pub host: H,
     pub answers: Result<Vec<Answer>, PlayError>,
 }
@@ -86,7 +86,7 @@ pub fn play<H: Host>(heap: Global, host: H, arena: &mut [u8], calls: &[Call]) ->
 }
 
 // What two lists of calls left.
-pub struct PlayedBoth<G: Host, H: Host> {
+pub struct PlayedBoth<G, H> {
     pub first: Played<G>,
     pub second: Played<H>,
 }

@@ -3,13 +3,12 @@ ghost use Rattle.std.specs.Prelude.{◌≡◌, ℕ, ◌<◌, true};
 ghost use Rattle.layout.specs.Columns.{Fits};
 ghost use Rattle.layout.specs.Tables.{col};
 
-use host::Host;
 use layout::ColumnTable;
 use readings::MysqlValue;
 
 // A session owns one host. `opened` says whether its columns are bound, and `shown` whether the last fetch showed a row; the
 // bytes of a shown row lie in its places.
-pub struct Session<H: Host> {
+pub struct Session<H> {
     pub(crate) host: H,
     pub(crate) table: ColumnTable,
     pub(crate) opened: bool,
