@@ -58,14 +58,14 @@ module _ (r s : Row) where
 
   same_fetched : (ps : List Column) (n : ℕ) (ds es : List Event) → SameFields ps r s → dues.fetched ps n (event.row r ∷ ds) ≡ dues.fetched ps n (event.row s ∷ es)
   same_fetched ps n ds es h =
-      ap (λ (o : Option ℕ). dues.row-fetched o (ltb n (row_need r 0 ps))) (same_loss 0 ps (from_first ps h))
-      ∙ ap (λ (k : ℕ). dues.row-fetched (first_loss s 0 ps) (ltb n k)) (same_need 0 ps (from_first ps h))
+      ap (λ (o : Option ℕ). dues.row_fetched o (ltb n (row_need r 0 ps))) (same_loss 0 ps (from_first ps h))
+      ∙ ap (λ (k : ℕ). dues.row_fetched (first_loss s 0 ps) (ltb n k)) (same_need 0 ps (from_first ps h))
 
   -- the reading of a column, by whether there is such a column
   read_by : (ps : List Column) (k : ℕ) (b : Bool) → ltb k (length ps) ≡ b → SameFields ps r s
-      → cond b (dues.row-shown ps (Some r) k) (Err (refused NoSuchColumn)) ≡ cond b (dues.row-shown ps (Some s) k) (Err (refused NoSuchColumn))
+      → cond b (dues.row_shown ps (Some r) k) (Err (refused NoSuchColumn)) ≡ cond b (dues.row_shown ps (Some s) k) (Err (refused NoSuchColumn))
   read_by ps k false e h = refl
-  read_by ps k true e h = let l : k < length ps = ltb-true k (length ps) e in ap (dues.field-shown k (get_or ps k no_pair)) (h k l)
+  read_by ps k true e h = let l : k < length ps = ltb-true k (length ps) e in ap (dues.field_shown k (get_or ps k no_pair)) (h k l)
 
   same_read : (ps : List Column) (k : ℕ) → SameFields ps r s → dues.read ps (Some r) k ≡ dues.read ps (Some s) k
   same_read ps k h = read_by ps k (ltb k (length ps)) refl h
@@ -122,7 +122,7 @@ module _ (m : Meaning) (n : ℕ) (history : List Entry) (ideal : Ideal (start m 
   went = run_of.came m n history ideal before asks split
 
   so : Ideal here asks
-  so = run_of.said-so m n history ideal before asks split
+  so = run_of.said_so m n history ideal before asks split
 
   is_bound : here.bound ≡ Some pairs
   is_bound = went.bound_as ∙ bound

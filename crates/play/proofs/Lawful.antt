@@ -25,7 +25,7 @@ record RowNext (s : State) (b : Option (List Column)) (coming : List Event) : Ty
   met : coming ≡ event.row fields ∷ rest
   shows : (n : ℕ) → row ≡ fetch_said (fetch_due b n coming) → shown_if (dues.fetched pairs n coming) coming ≡ Some fields
 
-row_shows : (loss : Option ℕ) (long : Bool) (r : Row) (es : List Event) → row ≡ fetch_said (dues.row-fetched loss long) → shown_if (dues.row-fetched loss long) (event.row r ∷ es) ≡ Some r
+row_shows : (loss : Option ℕ) (long : Bool) (r : Row) (es : List Event) → row ≡ fetch_said (dues.row_fetched loss long) → shown_if (dues.row_fetched loss long) (event.row r ∷ es) ≡ Some r
 row_shows (Some k) long r es e = let z : ◌≡◌ {A = ℕ} 0 1 = cc in absurd (omega arith)
 row_shows None true r es e = let z : ◌≡◌ {A = ℕ} 0 1 = cc in absurd (omega arith)
 row_shows None false r es e = refl

@@ -123,7 +123,7 @@ record Fetched (x : Result Fetch Fault) (coming : List Event) : Type 0 where
   away : removes fetch (fetch_said x) ≡ 1
   shows : is_some (shown_if x coming) ≡ shows_after false fetch (fetch_said x)
 
-row_fetched : (loss : Option ℕ) (long : Bool) (r : Row) (es : List Event) → Fetched (dues.row-fetched loss long) (event.row r ∷ es)
+row_fetched : (loss : Option ℕ) (long : Bool) (r : Row) (es : List Event) → Fetched (dues.row_fetched loss long) (event.row r ∷ es)
 row_fetched (Some k) long r es = record { away = refl; shows = refl }
 row_fetched None true r es = record { away = refl; shows = refl }
 row_fetched None false r es = record { away = refl; shows = refl }
