@@ -3,7 +3,7 @@
 use Rattle.std.proofs.Common.{◌≡◌, ℕ, zero, suc, ◌+◌, ◌*◌, ◌%◌, ◌^◌, ◌<◌, ◌≤◌, Bool, true, false, not, eqb, leb, List, [], ◌∷◌, length, get_or, take, drop, refl, subst, arith}
 use Rattle.std.proofs.lemmas.List.{length-take}
 use Rattle.std.proofs.lemmas.Bool.{leb-true, eqb-false, not-true}
-use Rattle.std.specs.List.{AllByRecursion as All}
+use Rattle.std.specs.List.{AllByRecursion}
 use Rattle.mysql.specs.declared.bind.Column.{Column}
 use Rattle.mysql.specs.Types.{size_of}
 use Rattle.host.specs.Fields.{Field, null, held, FieldAt}
@@ -83,16 +83,16 @@ event_fits cs (t ∷ bs) e r k =
     (λ z1 j. never e r j))
     k
 
-events_after : (cs : List Column) (n : ℕ) (t : Taken Event) → ((e : Event) (r : List ℕ) → t ≡ taken e r → Fitting cs e) → ((r : List ℕ) → All (Fitting cs) (events_in cs n r))
-    → All (Fitting cs) (elim t [ taken e r ↦ e ∷ events_in cs n r | broken ↦ [] ])
+events_after : (cs : List Column) (n : ℕ) (t : Taken Event) → ((e : Event) (r : List ℕ) → t ≡ taken e r → Fitting cs e) → ((r : List ℕ) → AllByRecursion (Fitting cs) (events_in cs n r))
+    → AllByRecursion (Fitting cs) (elim t [ taken e r ↦ e ∷ events_in cs n r | broken ↦ [] ])
 events_after cs n (taken e r) h rest = (h e r refl, rest r)
 events_after cs n broken h rest = tt
 
-pub events_fit : (cs : List Column) (n : ℕ) (bs : List ℕ) → All (Fitting cs) (events_in cs n bs)
+pub events_fit : (cs : List Column) (n : ℕ) (bs : List ℕ) → AllByRecursion (Fitting cs) (events_in cs n bs)
 events_fit cs zero bs = tt
 events_fit cs (suc n) bs = events_after cs n (take_event cs bs) (λ e r k. event_fits cs bs e r k) (λ r. events_fit cs n r)
 
-pub columns_fit : (bs : List ℕ) → All ColumnFits (columns_in bs)
+pub columns_fit : (bs : List ℕ) → AllByRecursion ColumnFits (columns_in bs)
 columns_fit [] = tt
 columns_fit (a ∷ []) = tt
 columns_fit (a ∷ b ∷ []) = tt

@@ -1,6 +1,6 @@
 -- What the steps over a tape's bytes take off their front.
 -- Assumes nothing.
-use Rattle.std.proofs.Common.{◌≡◌, ℕ, zero, suc, ◌+◌, ◌-◌, ◌*◌, ◌%◌, ◌^◌, ◌<◌, ◌≤◌, Bool, true, false, cond, not, eqb, List, [], ◌∷◌, length, get_or, take, drop, Some, None, sym, refl, ap, ◌∙◌, arith}
+use Rattle.std.proofs.Common.{◌≡◌, ℕ, suc, ◌+◌, ◌-◌, ◌*◌, ◌%◌, ◌^◌, ◌<◌, ◌≤◌, not, eqb, List, [], ◌∷◌, length, get_or, take, drop, Some, None, sym, refl, ap, ◌∙◌, arith}
 use Rattle.std.proofs.lemmas.List.{take_rest}
 use Rattle.std.proofs.lemmas.Bool.{eq-eqb, ne_eqb}
 use Rattle.mysql.specs.declared.bind.Column.{Column}
@@ -8,7 +8,7 @@ use Rattle.host.specs.Fields.{Field}
 use Rattle.recording.specs.Format.{Event, row, failure}
 use Rattle.recording.specs.Decode.{Taken, taken, broken, next, given, left, take2, take4, field_by, take_field, take_fields, take_column, take_failure, event_by, take_event, take_events}
 use Rattle.recording.specs.Views.{columns_in, fields_in}
-use Rattle.recording.proofs.Steps.{never, Split, next_split}
+use Rattle.recording.proofs.Steps.{never, next_split}
 
 -- the bytes after the first, as a pattern cuts them
 abbrev pub tail : List ℕ → List ℕ

@@ -5,9 +5,9 @@ use Rattle.std.proofs.lemmas.Bool.{le-leb, lt-leb}
 use Rattle.mysql.specs.declared.bind.Column.{Column}
 use Rattle.host.specs.Fields.{Field}
 use Rattle.recording.specs.Format.{Event, Contents}
-use Rattle.recording.specs.Decode.{Taken, taken, broken, next, given, left, take2, take_field, take_event, take_events, take_column, take_columns, ended, take_body, take_tape}
+use Rattle.recording.specs.Decode.{Taken, taken, broken, next, given, left, take2, take_field, take_event, take_events, take_columns, ended, take_body, take_tape}
 use Rattle.recording.specs.Views.{columns_in, fields_in, events_in}
-use Rattle.recording.proofs.Steps.{never, given_is, given_not, Split, next_split}
+use Rattle.recording.proofs.Steps.{given_is, given_not, next_split}
 use Rattle.recording.proofs.Walked.{left_some, left_none}
 
 pub columns_at : (w : ℕ) (bs : List ℕ) → w * 5 ≤ length bs → take_columns w bs ≡ taken (columns_in (take (w * 5) bs)) (drop (w * 5) bs)

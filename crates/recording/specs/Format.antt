@@ -1,7 +1,7 @@
 -- What a tape is, byte by byte. A tape is the recording of one result: its columns, and then what came of it, one event
 -- after the other. Numbers lie lowest byte first. Nothing stands between the parts or after the last event.
-use Rattle.std.specs.Prelude.{◌≡◌, ℕ, ◌+◌, ◌/◌, ◌%◌, ◌<◌, ◌≤◌, Bool, true, false, List, [], ◌∷◌, ◌++◌, length}
-use Rattle.std.specs.List.{flat_map, AllByRecursion as All}
+use Rattle.std.specs.Prelude.{◌≡◌, ℕ, ◌/◌, ◌%◌, ◌<◌, ◌≤◌, Bool, true, false, List, [], ◌∷◌, ◌++◌, length}
+use Rattle.std.specs.List.{flat_map, AllByRecursion}
 use Rattle.mysql.specs.declared.bind.Column.{Column}
 use Rattle.host.specs.Fields.{Field, null, held, FieldAt}
 use Rattle.host.specs.Meanings.{ColumnFits}
@@ -62,8 +62,8 @@ pub record TapeOf (bytes : List ℕ) (t : Contents) : Type 0 where
   pub bytes_are : tape_bytes t ≡ bytes
   pub narrow : length t.columns ≤ 64
   pub few : length t.events < 65536
-  pub columns_fit : All ColumnFits t.columns
-  pub events_of : All (EventOf t.columns) t.events
+  pub columns_fit : AllByRecursion ColumnFits t.columns
+  pub events_of : AllByRecursion (EventOf t.columns) t.events
 
 -- these bytes are no tape
 abbrev pub NoTape : List ℕ → Type 0

@@ -3,7 +3,7 @@
 use Rattle.std.proofs.Common.{◌≡◌, ℕ, zero, suc, ◌+◌, ◌*◌, ◌/◌, ◌%◌, ◌^◌, ◌<◌, ◌≤◌, Bool, true, false, cond, not, eqb, leb, List, [], ◌∷◌, ◌++◌, length, get_or, take, drop, Some, None, Option, sym, refl, ap, ◌∙◌, subst, arith}
 use Rattle.std.proofs.lemmas.List.{append_assoc, append-nil, take_at, drop_at, length-append, length-take, take-append-drop}
 use Rattle.std.proofs.lemmas.Bool.{le-leb, eq-eqb, leb-true, eqb-true, eqb-false, ne_eqb, not-true, not_from_false}
-use Rattle.std.specs.List.{flat_map, AllByRecursion as All}
+use Rattle.std.specs.List.{flat_map, AllByRecursion}
 use Rattle.mysql.specs.declared.bind.Column.{Column}
 use Rattle.mysql.specs.Types.{size_of}
 use Rattle.tape.specs.Format.{Field, null, held, Event, row, failure, Contents, two, four, tag, field_bytes, event_bytes, column_bytes, HeldAt, FieldAt, RowOf, EventOf, ColumnFits, TapeOf}
@@ -56,7 +56,7 @@ event_back cs (failure n) r h =
     ap (λ t. next t (λ k s. given (not (eqb k 0)) (taken (failure k) s))) (two_back n r)
     ∙ given_is (not (eqb n 0)) _ (not_from_false (eqb n 0) (ne_eqb n 0 (λ z. omega arith)))
 
-events_back : (cs : List Column) (es : List Event) (r : List ℕ) → All (EventOf cs) es → take_events cs (length es) (flat_map event_bytes es ++ r) ≡ taken es r
+events_back : (cs : List Column) (es : List Event) (r : List ℕ) → AllByRecursion (EventOf cs) es → take_events cs (length es) (flat_map event_bytes es ++ r) ≡ taken es r
 events_back cs [] r h = refl
 events_back cs (e ∷ es) r h =
     ap (take_events cs (suc (length es))) (append_assoc (event_bytes e) (flat_map event_bytes es) r)
@@ -70,7 +70,7 @@ columns_back (c ∷ cs) r =
     ∙ ap (λ t. next (next t (λ n q. taken (record { code = c.code; flags = n }) q)) (λ g q. next (take_columns (length cs) q) (λ gs s. taken (g ∷ gs) s))) (four_back c.flags (flat_map column_bytes cs ++ r))
     ∙ ap (λ t. next t (λ gs s. taken (c ∷ gs) s)) (columns_back cs r)
 
-body_back : (t : Contents) → All (EventOf t.columns) t.events → take_body (length t.columns) (length t.events) (flat_map column_bytes t.columns ++ flat_map event_bytes t.events) ≡ taken t []
+body_back : (t : Contents) → AllByRecursion (EventOf t.columns) t.events → take_body (length t.columns) (length t.events) (flat_map column_bytes t.columns ++ flat_map event_bytes t.events) ≡ taken t []
 body_back t h =
     ap (λ x. next x (λ cs r. next (take_events cs (length t.events) r) (λ es s. ended (record { columns = cs; events = es }) s))) (columns_back t.columns (flat_map event_bytes t.events))
     ∙ ap (λ u. next (take_events t.columns (length t.events) u) (λ es s. ended (record { columns = t.columns; events = es }) s)) (sym (append-nil (flat_map event_bytes t.events)))
@@ -90,7 +90,7 @@ tape_back bytes t h =
 -- from the way back to the format
 
 abbrev pub Bytes : List ℕ → Type 0
-Bytes bs = All (λ b. b < 256) bs
+Bytes bs = AllByRecursion (λ b. b < 256) bs
 
 pub bytes_from : (bs : List ℕ) → ((i : ℕ) → get_or bs i 0 < 256) → Bytes bs
 bytes_from [] h = tt
@@ -199,14 +199,14 @@ event_sound cs (t ∷ bs) e r h k =
     (λ z1 j. never e r j))
     k
 
-events_sound : (cs : List Column) (n : ℕ) (bs : List ℕ) (es : List Event) (r : List ℕ) → Bytes bs → take_events cs n bs ≡ taken es r → (All (EventOf cs) es) × (flat_map event_bytes es ++ r ≡ bs) × (length es ≡ n)
-events_sound cs zero bs es r h e = let P : List Event → List ℕ → Type 0 = λ g u. (All (EventOf cs) g) × (flat_map event_bytes g ++ u ≡ bs) × (length g ≡ 0) in moved P e (tt, refl, refl)
+events_sound : (cs : List Column) (n : ℕ) (bs : List ℕ) (es : List Event) (r : List ℕ) → Bytes bs → take_events cs n bs ≡ taken es r → (AllByRecursion (EventOf cs) es) × (flat_map event_bytes es ++ r ≡ bs) × (length es ≡ n)
+events_sound cs zero bs es r h e = let P : List Event → List ℕ → Type 0 = λ g u. (AllByRecursion (EventOf cs) g) × (flat_map event_bytes g ++ u ≡ bs) × (length g ≡ 0) in moved P e (tt, refl, refl)
 events_sound cs (suc n) bs es r h e =
     let x = next_split (take_event cs bs) (λ f q. next (take_events cs n q) (λ gs s. taken (f ∷ gs) s)) es r e in
     let y = next_split (take_events cs n x.rest) (λ gs s. taken (x.first ∷ gs) s) es r x.then in
     let a = event_sound cs bs x.first x.rest h x.was in
     let b = events_sound cs n x.rest y.first y.rest (rest_bytes (event_bytes x.first) x.rest bs a.1 h) y.was in
-    let P : List Event → List ℕ → Type 0 = λ g u. (All (EventOf cs) g) × (flat_map event_bytes g ++ u ≡ bs) × (length g ≡ suc n) in
+    let P : List Event → List ℕ → Type 0 = λ g u. (AllByRecursion (EventOf cs) g) × (flat_map event_bytes g ++ u ≡ bs) × (length g ≡ suc n) in
     moved P y.then ((a.0, b.0), append_assoc (event_bytes x.first) (flat_map event_bytes y.first) y.rest ∙ ap (λ u. event_bytes x.first ++ u) b.1 ∙ a.1, ap suc b.2)
 
 column_sound : (bs : List ℕ) (c : Column) (r : List ℕ) → Bytes bs → take_column bs ≡ taken c r → (ColumnFits c) × (column_bytes c ++ r ≡ bs)
@@ -217,14 +217,14 @@ column_sound (a ∷ bs) c r h e =
     let P : Column → List ℕ → Type 0 = λ c q. (ColumnFits c) × (column_bytes c ++ q ≡ a ∷ bs) in
     moved P w.then ((h.0, s.0), ap (λ u. a ∷ u) s.1)
 
-columns_sound : (n : ℕ) (bs : List ℕ) (cs : List Column) (r : List ℕ) → Bytes bs → take_columns n bs ≡ taken cs r → (All ColumnFits cs) × (flat_map column_bytes cs ++ r ≡ bs) × (length cs ≡ n)
-columns_sound zero bs cs r h e = let P : List Column → List ℕ → Type 0 = λ g u. (All ColumnFits g) × (flat_map column_bytes g ++ u ≡ bs) × (length g ≡ 0) in moved P e (tt, refl, refl)
+columns_sound : (n : ℕ) (bs : List ℕ) (cs : List Column) (r : List ℕ) → Bytes bs → take_columns n bs ≡ taken cs r → (AllByRecursion ColumnFits cs) × (flat_map column_bytes cs ++ r ≡ bs) × (length cs ≡ n)
+columns_sound zero bs cs r h e = let P : List Column → List ℕ → Type 0 = λ g u. (AllByRecursion ColumnFits g) × (flat_map column_bytes g ++ u ≡ bs) × (length g ≡ 0) in moved P e (tt, refl, refl)
 columns_sound (suc n) bs cs r h e =
     let x = next_split (take_column bs) (λ c q. next (take_columns n q) (λ gs s. taken (c ∷ gs) s)) cs r e in
     let y = next_split (take_columns n x.rest) (λ gs s. taken (x.first ∷ gs) s) cs r x.then in
     let a = column_sound bs x.first x.rest h x.was in
     let b = columns_sound n x.rest y.first y.rest (rest_bytes (column_bytes x.first) x.rest bs a.1 h) y.was in
-    let P : List Column → List ℕ → Type 0 = λ g u. (All ColumnFits g) × (flat_map column_bytes g ++ u ≡ bs) × (length g ≡ suc n) in
+    let P : List Column → List ℕ → Type 0 = λ g u. (AllByRecursion ColumnFits g) × (flat_map column_bytes g ++ u ≡ bs) × (length g ≡ suc n) in
     moved P y.then ((a.0, b.0), append_assoc (column_bytes x.first) (flat_map column_bytes y.first) y.rest ∙ ap (λ u. column_bytes x.first ++ u) b.1 ∙ a.1, ap suc b.2)
 
 ended_is : (t u : Contents) (s r : List ℕ) → ended t s ≡ taken u r → (s ≡ []) × (t ≡ u)

@@ -2,7 +2,7 @@
 use Rattle.std.proofs.Common.{sym, subst, arith}
 use Rattle.std.specs.Prelude.{ℕ, List, [], ◌∷◌, map, length, get_or, take, Some, None, Option, ◌==◌, nat_lt, slice_index_or}
 use Rattle.std.specs.Borrow.{Bor}
-use Rattle.std.specs.List.{AllByRecursion as All}
+use Rattle.std.specs.List.{AllByRecursion}
 use Rattle.std.proofs.lemmas.Bool.{eqb-true, and_parts}
 use Rattle.std.proofs.lemmas.List.{length-take}
 use Rattle.host.specs.Fields.{Field, null, FieldAt}
@@ -23,7 +23,7 @@ event_fits : (t : Tape) (e : recorded.Event) → Fitting (columns_of t) e → Ev
 event_fits t (recorded.row fs) h = row_fits t fs h
 event_fits t (recorded.failure n) h = h
 
-events_fit_in : (t : Tape) (es : List recorded.Event) → All (Fitting (columns_of t)) es → All (EventFits (means t)) (map event_shown es)
+events_fit_in : (t : Tape) (es : List recorded.Event) → AllByRecursion (Fitting (columns_of t)) es → AllByRecursion (EventFits (means t)) (map event_shown es)
 events_fit_in t [] h = tt
 events_fit_in t (e ∷ es) h = (event_fits t e h.0, events_fit_in t es h.1)
 

@@ -1,4 +1,4 @@
-use Rattle.std.proofs.Common.{◌≡◌, ◌*◌, ◌<◌, ◌≤◌, length, sym, ⊎_elim, arith}
+use Rattle.std.proofs.Common.{sym, ⊎_elim, arith}
 use Rattle.std.proofs.lemmas.Bool.{eqb-true, eqb-false}
 use Rattle.recording.proofs.Whole.{too_wide, columns_missing, events_broken, too_long, all_there}
 use Rattle.recording.proofs.recording.read.Goals as goal

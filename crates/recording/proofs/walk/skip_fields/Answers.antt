@@ -1,6 +1,6 @@
-use Rattle.std.proofs.Common.{◌≡◌, ap, ◌∙◌}
+use Rattle.std.proofs.Common.{ap, ◌∙◌}
 use Rattle.recording.specs.Decode.{left, take_fields}
-use Rattle.recording.specs.Views.{columns_in, field_of}
+use Rattle.recording.specs.Views.{columns_in}
 use Rattle.recording.proofs.Walked.{columns_first, fields_more}
 use Rattle.recording.proofs.walk.skip_fields.Goals as goal
 

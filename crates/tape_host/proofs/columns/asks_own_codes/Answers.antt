@@ -3,8 +3,8 @@ use Rattle.recording.specs.Views.{columns_in}
 use Rattle.tape_host.proofs.Columned.{codes_stop, codes_differ, codes_more, codes_end}
 use Rattle.tape_host.proofs.columns.asks_own_codes.Goals as goal
 
-pub returns-in-default : goal.returns-in-default
-returns-in-default c = sym (c.loop-record.invariant ∙ codes_stop c.loop-record.rest.now c.args.records.now c.loop-record.record-index (omega arith) c.in-default.ensures)
+pub returns-in_default : goal.returns-in_default
+returns-in_default c = sym (c.loop-record.invariant ∙ codes_stop c.loop-record.rest.now c.args.records.now c.loop-record.record-index (omega arith) c.in_default.ensures)
 
 pub returns-then-column-record : goal.returns-then-column-record
 returns-then-column-record c =

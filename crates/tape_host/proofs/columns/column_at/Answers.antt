@@ -6,17 +6,17 @@ use Rattle.recording.specs.Views.{columns_in}
 use Rattle.recording.proofs.Counted.{columns_count, column_at, column_none}
 use Rattle.tape_host.proofs.columns.column_at.Goals as goal
 
-pub returns-then-i-count-columns : goal.returns-then-i-count-columns
-returns-then-i-count-columns c = sym (get_or_past (columns_in c.args.columns.now) c.args.i no_column (omega (arith, c.count-columns.ensures)))
+pub returns-then-i-count_columns : goal.returns-then-i-count_columns
+returns-then-i-count_columns c = sym (get_or_past (columns_in c.args.columns.now) c.args.i no_column (omega (arith, c.count_columns.ensures)))
 
-pub overflow-mul-i : goal.overflow-mul-i
-overflow-mul-i c = omega (arith, columns_count c.args.columns.now, c.count-columns.ensures)
+pub overflow_mul-i : goal.overflow_mul-i
+overflow_mul-i c = omega (arith, columns_count c.args.columns.now, c.count_columns.ensures)
 
-pub slice-bounds-take-column-count : goal.slice-bounds-take-column-count
-slice-bounds-take-column-count c = omega (arith, columns_count c.args.columns.now, c.count-columns.ensures)
+pub slice_bounds-take_column-count : goal.slice_bounds-take_column-count
+slice_bounds-take_column-count c = omega (arith, columns_count c.args.columns.now, c.count_columns.ensures)
 
-pub slice-bounds-take-column-start : goal.slice-bounds-take-column-start
-slice-bounds-take-column-start c = omega (arith, columns_count c.args.columns.now, c.count-columns.ensures)
+pub slice_bounds-take_column-start : goal.slice_bounds-take_column-start
+slice_bounds-take_column-start c = omega (arith, columns_count c.args.columns.now, c.count_columns.ensures)
 
 pub returns-in-Some : goal.returns-in-Some
 returns-in-Some c =

@@ -4,8 +4,8 @@ use Rattle.host.specs.Calls.{all_end_by}
 use Rattle.tape_host.proofs.Copied.{ends_more, ends_past}
 use Rattle.tape_host.proofs.places.all_end_by.Goals as goal
 
-pub returns-then-end-of-arena : goal.returns-then-end-of-arena
-returns-then-end-of-arena c =
+pub returns-then-end_of-arena : goal.returns-then-end_of-arena
+returns-then-end_of-arena c =
     sym (c.loop-record.invariant ∙ ends_past c.args.records.now c.loop-record.record-index (omega arith) c.args.arena (search rules))
 
 pub loop-record-preserved : goal.loop-record-preserved

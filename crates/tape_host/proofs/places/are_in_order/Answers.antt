@@ -12,7 +12,7 @@ pub loop-record-preserved : goal.loop-record-preserved
 loop-record-preserved c =
     c.loop-record.invariant
     ∙ order_more c.args.records.now c.loop-record.record-index (omega arith) c.loop-record.from (search rules)
-    ∙ ap (λ (n : ℕ). in_order n (drop (c.loop-record.record-index + 1) c.args.records.now)) (sym c.end-of-from.ensures)
+    ∙ ap (λ (n : ℕ). in_order n (drop (c.loop-record.record-index + 1) c.args.records.now)) (sym c.end_of-from.ensures)
 
 pub returns : goal.returns
 returns c = sym (c.loop-record.invariant ∙ ap (in_order c.loop-record.from) (drop_all c.loop-record.record-index c.args.records.now (omega arith)))

@@ -8,11 +8,11 @@ use Rattle.tape_host.proofs.Copied.{left_more, left_first}
 use Rattle.tape_host.proofs.Rowed.{inside_at, more_written, all_written}
 use Rattle.tape_host.proofs.write.write_row.Goals as goal
 
-pub overflow-add-end : goal.overflow-add-end
-overflow-add-end c = let h = inside_at (length c.args.arena.now) c.args.places.now c.requires.inside c.loop-i.i (omega arith) in omega arith
+pub overflow_add-end : goal.overflow_add-end
+overflow_add-end c = let h = inside_at (length c.args.arena.now) c.args.places.now c.requires.inside c.loop-i.i (omega arith) in omega arith
 
-pub slice-bounds-write-field-end : goal.slice-bounds-write-field-end
-slice-bounds-write-field-end c = let h = inside_at (length c.args.arena.now) c.args.places.now c.requires.inside c.loop-i.i (omega arith) in search rules
+pub slice_bounds-write_field-end : goal.slice_bounds-write_field-end
+slice_bounds-write_field-end c = let h = inside_at (length c.args.arena.now) c.args.places.now c.requires.inside c.loop-i.i (omega arith) in search rules
 
 pub loop-i-preserved : goal.loop-i-preserved
 loop-i-preserved c =
@@ -22,12 +22,12 @@ loop-i-preserved c =
     let h = inside_at (length c.args.arena.now) ps c.requires.inside i (omega arith) in
     let b = get_or ps i no_record in
     let size : b.start + b.capacity - b.start ≡ b.capacity = omega arith in
-    let field : field_of c.next-field-field.result ≡ get_or fs i null =
-    c.next-field-field.ensures.first ∙ left_first fs (fields_left c.loop-i.fields) i c.loop-i.invariant.0 null in (
-      left_more fs (fields_left c.loop-i.fields) i c.loop-i.invariant.0 (fields_left c.next-field-field.new.fields) c.next-field-field.ensures.left,
+    let field : field_of c.next_field-field.result ≡ get_or fs i null =
+    c.next_field-field.ensures.first ∙ left_first fs (fields_left c.loop-i.fields) i c.loop-i.invariant.0 null in (
+      left_more fs (fields_left c.loop-i.fields) i c.loop-i.invariant.0 (fields_left c.next_field-field.new.fields) c.next_field-field.ensures.left,
       more_written fs ps c.loop-i.reports c.args.arena.now c.loop-i.arena c.loop-i.truncated i c.loop-i.invariant.1 c.requires.ordered (omega arith) (omega arith)
-          (b.start + b.capacity - b.start) c.write-field-report.new.part c.write-field-report.result
-          (omega arith) size (search rules) (field_of c.next-field-field.result) field _ (search rules) c.write-field-report.ensures.reported c.write-field-report.ensures.stands,
+          (b.start + b.capacity - b.start) c.write_field-report.new.part c.write_field-report.result
+          (omega arith) size (search rules) (field_of c.next_field-field.result) field _ (search rules) c.write_field-report.ensures.reported c.write_field-report.ensures.stands,
     )
 
 pub returns : goal.returns

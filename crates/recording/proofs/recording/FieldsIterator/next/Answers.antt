@@ -1,4 +1,4 @@
-use Rattle.std.proofs.Common.{◌≡◌, ap, ◌∙◌, rules}
+use Rattle.std.proofs.Common.{ap, ◌∙◌, rules}
 use Rattle.recording.specs.Views.{columns_in, fields_in, field_of}
 use Rattle.recording.proofs.Steps.{shorter}
 use Rattle.recording.proofs.Walked.{columns_first}

@@ -1,5 +1,4 @@
 use Rattle.std.proofs.Common.{refl, arith}
-use Rattle.recording.specs.Views.{columns_in}
 use Rattle.recording.proofs.Whole.{columns_few}
 use Rattle.recording.proofs.recording.Recording.columns.Goals as goal
 

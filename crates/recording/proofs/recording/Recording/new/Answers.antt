@@ -1,8 +1,7 @@
-use Rattle.std.proofs.Common.{◌≡◌, ℕ, ◌<◌, [], sym, ◌∙◌, arith}
+use Rattle.std.proofs.Common.{◌≡◌, ℕ, ◌<◌, [], arith}
 use Rattle.std.proofs.ByRecursion.{All-from_get_or}
 use Rattle.recording.specs.Recordings.{contents}
 use Rattle.recording.proofs.Same.{tape_back, tape_sound}
-use Rattle.mysql.specs.declared.fault.Fault.{Fault}
 use Rattle.recording.proofs.recording.Recording.new.Goals as goal
 
 pub returns-in-Some : goal.returns-in-Some

@@ -7,19 +7,19 @@ use Rattle.tape_host.specs.Wholes.{own_codes}
 use Rattle.tape_host.proofs.Called.{width_few, bind_error_is, now_bound}
 use Rattle.tape_host.proofs.hosted.TapeHost.bind.Goals as goal
 
-pub returns-then-not-asks-own-codes : goal.returns-then-not-asks-own-codes
-returns-then-not-asks-own-codes c =
+pub returns-then-not-asks_own_codes : goal.returns-then-not-asks_own_codes
+returns-then-not-asks_own_codes c =
     let t = c.args.self.now in
     let bs = c.args.records.now in
-    let h = c.first-columns-columns.ensures in
-    let n = c.if-records-count-columns.false ∙ c.count-columns.ensures ∙ ap (λ xs. length (columns_in xs)) h in
-    let z = sym (ap (λ xs. own_codes (columns_in xs) bs) h) ∙ sym c.if-not-asks-own-codes.ensures in
-    let e = bind_error_is t bs n (sym c.if-not-are-in-order.ensures) _ z in
+    let h = c.first_columns-columns.ensures in
+    let n = c.if-records-count_columns.false ∙ c.count_columns.ensures ∙ ap (λ xs. length (columns_in xs)) h in
+    let z = sym (ap (λ xs. own_codes (columns_in xs) bs) h) ∙ sym c.if-not-asks_own_codes.ensures in
+    let e = bind_error_is t bs n (sym c.if-not-are_in_order.ensures) _ z in
     record { granted = sym (ap (λ x. eqb x 0) e); after = bind_after (means t) bs 2036 e }
 
-pub copy-records-self-requires : goal.copy-records-self-requires
-copy-records-self-requires c =
-    let n = c.if-records-count-columns.false ∙ c.count-columns.ensures ∙ ap (λ xs. length (columns_in xs)) c.first-columns-columns.ensures in
+pub copy_records-self-requires : goal.copy_records-self-requires
+copy_records-self-requires c =
+    let n = c.if-records-count_columns.false ∙ c.count_columns.ensures ∙ ap (λ xs. length (columns_in xs)) c.first_columns-columns.ensures in
     omega (arith, width_few c.args.self.now.columns.now)
 
 pub returns : goal.returns
@@ -27,14 +27,14 @@ returns c =
     let t = c.args.self.now in
     let m = means t in
     let bs = c.args.records.now in
-    let h = c.first-columns-columns.ensures in
-    let n = c.if-records-count-columns.false ∙ c.count-columns.ensures ∙ ap (λ xs. length (columns_in xs)) h in
-    let z = sym (ap (λ xs. own_codes (columns_in xs) bs) h) ∙ sym c.if-not-asks-own-codes.ensures in
-    let o = sym c.if-not-are-in-order.ensures in
+    let h = c.first_columns-columns.ensures in
+    let n = c.if-records-count_columns.false ∙ c.count_columns.ensures ∙ ap (λ xs. length (columns_in xs)) h in
+    let z = sym (ap (λ xs. own_codes (columns_in xs) bs) h) ∙ sym c.if-not-asks_own_codes.ensures in
+    let o = sym c.if-not-are_in_order.ensures in
     let e = bind_error_is t bs n o _ z in
     record {
       granted = sym (ap (λ x. eqb x 0) e);
       after =
-          ap (λ (b : Option (List BindRecord)). record { columns = m.columns; carries = m.carries; coming = m.coming; current = m.current; bound = b; error = 0 }) (now_bound t bs n o c.copy-records-self.result c.copy-records-self.ensures)
+          ap (λ (b : Option (List BindRecord)). record { columns = m.columns; carries = m.carries; coming = m.coming; current = m.current; bound = b; error = 0 }) (now_bound t bs n o c.copy_records-self.result c.copy_records-self.ensures)
           ∙ bind_after m bs 0 e;
     }

@@ -12,7 +12,7 @@ returns-then-column-places c =
     let column = c.args.column in
     let none : record_of (means t) column ≡ None = elim c.then-column-places.branch [
       | goal.then-column-places-via-then-column-places w ↦ record_past t column (omega (arith, ap length c.places.ensures.are))
-      | goal.then-column-places-via-else-column-places+then-not-is-bound w ↦ record_unbound t column (sym w.if-not-is-bound.ensures)
+      | goal.then-column-places-via-else-column-places+then-not-is_bound w ↦ record_unbound t column (sym w.if-not-is_bound.ensures)
     ] in
     part_refused t column c.in-Some.bytes c.args.report.now c.args.part.now c.in-Some.is none
 
@@ -21,14 +21,14 @@ returns c =
     let t = c.args.self.now in
     let column = c.args.column in
     let fs = fields_in (columns_of t) c.in-Some.bytes.now in
-    let field = c.field-at-field.ensures ∙ ap (λ xs. get_or (fields_in (columns_in xs) c.in-Some.bytes.now) column null) c.first-columns-columns.ensures in
+    let field = c.field_at-field.ensures ∙ ap (λ xs. get_or (fields_in (columns_in xs) c.in-Some.bytes.now) column null) c.first_columns-columns.ensures in
     record {
       fields = shown fs;
       current = ap (current_of (columns_of t)) c.in-Some.is;
       at = get_or (places_of t) column no_record;
-      bound = record_some t column (sym c.if-not-is-bound.ensures) (omega (arith, ap length c.places.ensures.are));
+      bound = record_some t column (sym c.if-not-is_bound.ensures) (omega (arith, ap length c.places.ensures.are));
       after = refl;
-      reported = subst (λ (f : Field). PartReported f c.args.offset (length c.args.part.now) c.write-field.result) field c.write-field.ensures.reported;
-      stands = subst (λ (f : Field). Stands (from_offset c.args.offset f) 0 (length c.args.part.now) c.write-field.new.part) field c.write-field.ensures.stands;
+      reported = subst (λ (f : Field). PartReported f c.args.offset (length c.args.part.now) c.write_field.result) field c.write_field.ensures.reported;
+      stands = subst (λ (f : Field). Stands (from_offset c.args.offset f) 0 (length c.args.part.now) c.write_field.new.part) field c.write_field.ensures.stands;
       as_long = search rules;
     }
