@@ -1,12 +1,12 @@
 // Counts in words.
-use std::fmt;
+use std::alloc::AllocError;
 use std::fmt::Write;
 use tally::tally;
 use tape_host::Tape;
 use tray::Tray;
 
 // A line with the count of a tape's events.
-pub fn count_tape(out: &mut String, bytes: &[u8]) -> fmt::Result {
+pub fn count_tape(out: &mut String, bytes: &[u8]) -> Result<(), AllocError> {
     let Ok(tape) = Tape::new(bytes) else {
         return Ok(());
     };
@@ -25,7 +25,7 @@ pub fn count_tape(out: &mut String, bytes: &[u8]) -> fmt::Result {
 }
 
 // A line with the count of a tray's rows.
-pub fn count_tray(out: &mut String, rows: u16) -> fmt::Result {
+pub fn count_tray(out: &mut String, rows: u16) -> Result<(), AllocError> {
     let mut tray = Tray::new(rows);
     match tally(&mut tray) {
         Some(all) => {

@@ -1,12 +1,12 @@
 // A tape in words.
 use mysql::{Column, Fault, MysqlType, last_error_type};
 use readings::{FromSql, MysqlTime, MysqlValue};
-use std::fmt;
+use std::alloc::AllocError;
 use std::fmt::Write;
 use tape::{Event, Field, Recording, Row};
 
 // A recording's columns and events, a line each, with a line for each field of a row.
-pub fn show_recording(out: &mut String, recording: &Recording) -> fmt::Result {
+pub fn show_recording(out: &mut String, recording: &Recording) -> Result<(), AllocError> {
     let width = recording.columns().count();
     let count = recording.events().count();
     writeln!(out, "{width} columns, {count} events")?;
@@ -19,7 +19,7 @@ pub fn show_recording(out: &mut String, recording: &Recording) -> fmt::Result {
     Ok(())
 }
 
-fn show_column(out: &mut String, i: usize, column: Column) -> fmt::Result {
+fn show_column(out: &mut String, i: usize, column: Column) -> Result<(), AllocError> {
     let code = column.code;
     let flags = column.flags;
     write!(out, "  column {i}: code {code}, flags 0x{flags:08x}, ")?;
@@ -30,7 +30,12 @@ fn show_column(out: &mut String, i: usize, column: Column) -> fmt::Result {
 }
 
 // Events are counted from 1, as rows are.
-fn show_event(out: &mut String, recording: &Recording, i: usize, event: Event) -> fmt::Result {
+fn show_event(
+    out: &mut String,
+    recording: &Recording,
+    i: usize,
+    event: Event,
+) -> Result<(), AllocError> {
     let place = i.saturating_add(1);
     match event {
         Event::Row(row) => {
@@ -44,7 +49,7 @@ fn show_event(out: &mut String, recording: &Recording, i: usize, event: Event) -
     }
 }
 
-fn show_row(out: &mut String, recording: &Recording, row: Row) -> fmt::Result {
+fn show_row(out: &mut String, recording: &Recording, row: Row) -> Result<(), AllocError> {
     for (i, (column, field)) in recording.columns().zip(row.fields()).enumerate() {
         write!(out, "    {i}: ")?;
         show_field(out, column, field)?;
@@ -52,7 +57,7 @@ fn show_row(out: &mut String, recording: &Recording, row: Row) -> fmt::Result {
     Ok(())
 }
 
-fn show_field(out: &mut String, column: Column, field: Field) -> fmt::Result {
+fn show_field(out: &mut String, column: Column, field: Field) -> Result<(), AllocError> {
     match field {
         Field::Null => writeln!(out, "null"),
         Field::Held { bytes, lost } => {
@@ -66,7 +71,7 @@ fn show_field(out: &mut String, column: Column, field: Field) -> fmt::Result {
 }
 
 // Text between quotes where the bytes are printable, else each byte in hexadecimal.
-fn show_bytes(out: &mut String, bytes: &[u8]) -> fmt::Result {
+fn show_bytes(out: &mut String, bytes: &[u8]) -> Result<(), AllocError> {
     if let Ok(text) = std::str::from_utf8(bytes) {
         if is_printable(text) {
             return writeln!(out, "\"{text}\"");
@@ -88,7 +93,7 @@ fn is_printable(text: &str) -> bool {
 }
 
 // What each reading makes of a value of the column.
-fn show_readings(out: &mut String, column: Column, bytes: &[u8]) -> fmt::Result {
+fn show_readings(out: &mut String, column: Column, bytes: &[u8]) -> Result<(), AllocError> {
     let Ok(tpe) = MysqlType::try_from((column.code, column.flags)) else {
         return writeln!(out, "       no type, so no reading");
     };
@@ -108,14 +113,14 @@ fn wide(answer: Result<i32, Fault>) -> Result<i64, Fault> {
     }
 }
 
-fn show_integer(out: &mut String, answer: Result<i64, Fault>) -> fmt::Result {
+fn show_integer(out: &mut String, answer: Result<i64, Fault>) -> Result<(), AllocError> {
     match answer {
         Ok(x) => write!(out, "{x}"),
         Err(fault) => show_refusal(out, fault),
     }
 }
 
-fn show_time(out: &mut String, answer: Result<MysqlTime, Fault>) -> fmt::Result {
+fn show_time(out: &mut String, answer: Result<MysqlTime, Fault>) -> Result<(), AllocError> {
     match answer {
         Ok(t) => {
             let (year, month, day) = (t.year, t.month, t.day);
@@ -133,7 +138,7 @@ fn show_time(out: &mut String, answer: Result<MysqlTime, Fault>) -> fmt::Result 
     }
 }
 
-fn show_refusal(out: &mut String, fault: Fault) -> fmt::Result {
+fn show_refusal(out: &mut String, fault: Fault) -> Result<(), AllocError> {
     let number = fault.number();
     write!(out, "refusal {number}")
 }
