@@ -6,6 +6,7 @@ mod count;
 use anyhow::anyhow;
 use count::{count_tape, count_tray};
 use recording::Recording;
+use std::process::ExitCode;
 use std::{env, fs};
 use words::InWords;
 
@@ -77,12 +78,13 @@ fn run(rt: &HostRuntime) -> anyhow::Result<()> {
     Ok(())
 }
 
-fn main(rt: HostRuntime) -> anyhow::Result<()> {
+// What went wrong is said on standard error, and ends the program with status 1.
+fn main(rt: HostRuntime) -> ExitCode {
     match run(&rt) {
-        Ok(()) => Ok(()),
+        Ok(()) => ExitCode::SUCCESS,
         Err(error) => {
-            eprintln!(rt; "count: {error}")?;
-            Err(error)
+            let _ = eprintln!(rt; "count: {error}");
+            ExitCode::FAILURE
         }
     }
 }

@@ -5,6 +5,7 @@ mod print;
 
 use anyhow::anyhow;
 use print::show_recording;
+use std::process::ExitCode;
 use std::{env, fs};
 use tape::Recording;
 use words::InWords;
@@ -52,12 +53,13 @@ fn run(rt: &HostRuntime) -> anyhow::Result<()> {
     Ok(())
 }
 
-fn main(rt: HostRuntime) -> anyhow::Result<()> {
+// What went wrong is said on standard error, and ends the program with status 1.
+fn main(rt: HostRuntime) -> ExitCode {
     match run(&rt) {
-        Ok(()) => Ok(()),
+        Ok(()) => ExitCode::SUCCESS,
         Err(error) => {
-            eprintln!(rt; "show: {error}")?;
-            Err(error)
+            let _ = eprintln!(rt; "show: {error}");
+            ExitCode::FAILURE
         }
     }
 }
