@@ -1,12 +1,12 @@
 -- Where nothing of a row is truncated, every field of it is whole.
 -- Assumes nothing.
-use Rattle.std.proofs.Common.{◌≡◌, ℕ, zero, suc, ◌+◌, ◌<◌, ◌≤◌, min, Bool, true, false, ◌||◌, ltb, List, [], ◌∷◌, length, get_or, sym, refl, ap, ◌∙◌, subst, arith}
+use Rattle.std.proofs.Common.{◌≡◌, ℕ, zero, suc, ◌+◌, ◌<◌, ◌≤◌, false, ltb, List, [], ◌∷◌, length, get_or, subst, arith}
 use Rattle.std.proofs.lemmas.Bool.{or_parts, ltb-false}
 use Rattle.host.specs.declared.records.BindRecord.{BindRecord}
 use Rattle.host.specs.declared.records.Report.{Report}
 use Rattle.host.specs.Fields.{Field, null, held}
 use Rattle.host.specs.Meanings.{Row}
-use Rattle.host.specs.Calls.{no_record, no_report, field_of, truncates, Reported, Stands, any_truncates}
+use Rattle.host.specs.Calls.{no_record, field_of, truncates, Reported, Stands, any_truncates}
 use Rattle.host.specs.Wholes.{Whole}
 
 pub none_truncated : (r : Row) (i : ℕ) (bs : List BindRecord) → any_truncates r i bs ≡ false → (k : ℕ) → k < length bs → truncates (field_of r (i + k) (get_or bs k no_record)) (get_or bs k no_record).capacity ≡ false

@@ -1,5 +1,5 @@
 -- What a row has in a column: null, or bytes. A figure may be lost where a number did not fit the code that it was asked for at.
-use Rattle.std.specs.Prelude.{◌≡◌, ℕ, ◌^◌, ◌<◌, Bool, true, false, List, length, Some, None, Option}
+use Rattle.std.specs.Prelude.{◌≡◌, ℕ, ◌^◌, ◌<◌, Bool, false, List, length, Some, None, Option}
 use Rattle.mysql.specs.Types.{size_of}
 
 -- null, or bytes, with a loss mark or without

@@ -1,6 +1,6 @@
 -- What a host is: a client library that holds one result. Its meaning has the columns, the codes that each column can be asked for
 -- at, the events to come, the current row or none, the bind list or none, and the error number.
-use Rattle.std.specs.Prelude.{◌≡◌, ℕ, ◌^◌, ◌<◌, ◌≤◌, Bool, true, List, [], ◌∷◌, length, get_or, Some, None, Option}
+use Rattle.std.specs.Prelude.{◌≡◌, ℕ, ◌^◌, ◌<◌, ◌≤◌, Bool, true, List, length, Some, None, Option}
 use Rattle.std.specs.List.{AllByRecursion}
 use Rattle.mysql.specs.declared.bind.Column.{Column}
 use Rattle.host.specs.declared.records.BindRecord.{BindRecord}

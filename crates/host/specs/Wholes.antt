@@ -1,5 +1,5 @@
 -- A row that came whole: every null is marked, and every other field stands in its place, all its bytes in order, no figure lost.
-use Rattle.std.specs.Prelude.{◌≡◌, ℕ, ◌+◌, ◌<◌, ◌≤◌, Bool, true, false, List, [], ◌∷◌, length, slice_index, slice_index_or}
+use Rattle.std.specs.Prelude.{◌≡◌, ℕ, ◌+◌, ◌<◌, Bool, true, false, List, ◌∷◌, length, slice_index, slice_index_or}
 use Rattle.host.specs.declared.records.BindRecord.{BindRecord}
 use Rattle.host.specs.declared.records.Report.{Report}
 use Rattle.host.specs.Fields.{Field, null, held}

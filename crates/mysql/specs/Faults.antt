@@ -1,5 +1,5 @@
 -- What a fault says beside its refusal: a column, and what the host failed with.
-use Rattle.std.specs.Prelude.{ℕ, Bool, true, false, cond, Some, None, Option, ◌==◌}
+use Rattle.std.specs.Prelude.{ℕ, cond, Some, None, Option, ◌==◌}
 use Rattle.mysql.specs.declared.fault.Refusal.{Refusal}
 use Rattle.mysql.specs.declared.fault.Refusal.TheVariants.{HostFailed}
 use Rattle.mysql.specs.declared.fault.Fault.{Fault}

@@ -1,6 +1,6 @@
 -- Which pairs of a wanted type and a column's code are kept, by ranges of codes. Where a pair is kept, the column is bound
 -- with its own code and flags, and the reading converts; where it is not, the column is bound as the wanted type asks.
-use Rattle.std.specs.Prelude.{ℕ, ◌+◌, Bool, true, false, cond, ◌&&◌, ◌||◌, List, [], ◌∷◌, map, sum_by, ◌==◌, nat_lt}
+use Rattle.std.specs.Prelude.{ℕ, ◌+◌, Bool, false, cond, ◌||◌, List, [], ◌∷◌, map, sum_by, ◌==◌, nat_lt}
 use Rattle.std.specs.List.{range_with_len}
 use Rattle.mysql.specs.declared.backend.MysqlType.{MysqlType}
 use Rattle.mysql.specs.declared.backend.MysqlType.TheVariants.{Tiny, UnsignedTiny, Short, UnsignedShort, Long, UnsignedLong, LongLong, UnsignedLongLong, Float, Double, Numeric, Time, Date, DateTime, Timestamp, String, Blob, Bit, Set, Enum}

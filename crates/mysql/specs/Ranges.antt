@@ -1,5 +1,5 @@
 -- Two tests on numbers that the rules are written with.
-use Rattle.std.specs.Prelude.{ℕ, Bool, true, false, ◌&&◌, ◌||◌, List, [], ◌∷◌, ◌==◌, nat_le}
+use Rattle.std.specs.Prelude.{ℕ, Bool, false, ◌&&◌, ◌||◌, List, [], ◌∷◌, ◌==◌, nat_le}
 
 -- n lies between low and high, both counted
 abbrev pub between : ℕ → ℕ → ℕ → Bool

@@ -1,6 +1,6 @@
 -- The table of refusals: each has a number, and from the number follow the layer that refused and whether a column
 -- can be named. And the kind of failure that each error number of a host stands for.
-use Rattle.std.specs.Prelude.{ℕ, Bool, cond, ◌||◌, List, [], ◌∷◌, ◌==◌}
+use Rattle.std.specs.Prelude.{ℕ, Bool, cond, ◌||◌, [], ◌∷◌, ◌==◌}
 use Rattle.mysql.specs.declared.fault.Refusal.{Refusal}
 use Rattle.mysql.specs.declared.fault.Refusal.TheVariants.{Unopened, AlreadyOpened, ArenaLength, NoSuchColumn, NoCurrentRow, UnknownFlags, LayoutTooLong, HostFailed, NumericOverflow, NoRoom, NoType, UnexpectedNull, WrongType, TooShort, InvalidSign, NegativeTime, OutOfRange, NotUtf8, ManyDots, InvalidInteger, BrokenTape}
 use Rattle.mysql.specs.declared.fault.Layer.{Layer}

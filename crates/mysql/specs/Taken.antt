@@ -1,6 +1,6 @@
 -- With which code and flags a column is bound. A column keeps its own where no type is wanted of it, or where the pair of the
 -- wanted type and its code is kept; its flags must be known then. Any other column is bound as the wanted type asks.
-use Rattle.std.specs.Prelude.{ℕ, Bool, cond, Some, None, Ok, Err, Option, Result}
+use Rattle.std.specs.Prelude.{ℕ, cond, Some, None, Ok, Err, Option, Result}
 use Rattle.mysql.specs.declared.fault.Fault.{Fault}
 use Rattle.mysql.specs.declared.fault.Refusal.TheVariants.{UnknownFlags}
 use Rattle.mysql.specs.declared.backend.MysqlType.{MysqlType}

@@ -1,5 +1,5 @@
 -- Types, and the pairs of code and flags that stand for them.
-use Rattle.std.specs.Prelude.{ℕ, Bool, true, false, cond, not, ◌&&◌, List, [], ◌∷◌, Some, None, Ok, Err, Option, Result, ◌==◌, bit_and}
+use Rattle.std.specs.Prelude.{ℕ, Bool, cond, not, ◌&&◌, [], ◌∷◌, Some, None, Ok, Err, Option, Result, ◌==◌, bit_and}
 use Rattle.mysql.specs.declared.fault.Fault.{Fault}
 use Rattle.mysql.specs.declared.fault.Refusal.TheVariants.{NoType}
 use Rattle.mysql.specs.declared.backend.MysqlType.{MysqlType}
