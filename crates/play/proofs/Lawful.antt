@@ -5,7 +5,7 @@ use Rattle.host.specs.Meanings.{Row, Event, Meaning}
 use Rattle.host.specs.Meanings as event
 use Rattle.rows.specs.Bounds.{first_loss, row_need}
 use Rattle.rows.specs.Dues as dues
-use Rattle.play.specs.Histories.{Asked, opening, fetch, Said, row, Entry, granted, removed, showing_from, NoFetch}
+use Rattle.play.specs.Histories.{Asked, fetch, Said, row, Entry, granted, removed, showing_from, NoFetch}
 use Rattle.play.specs.Rules.{opening_said, fetch_said, fetch_due, reading_due}
 use Rattle.play.specs.Law.{bound_after, Shows, Exactly, Lawful}
 use Rattle.play.specs.Machine.{State, start, shown_if, fetch_at, answer, after, Ideal}

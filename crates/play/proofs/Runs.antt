@@ -15,7 +15,7 @@ use Rattle.layout.specs.Tables.{opening_size}
 use Rattle.rows.specs.declared.answers.Fetch.{Fetch}
 use Rattle.rows.specs.Bounds.{bound, all_carried, first_loss, row_need}
 use Rattle.rows.specs.Dues as dues
-use Rattle.play.specs.Histories.{Asked, opening, fetch, reading, integer, big_integer, time, Said, row, Entry, granted_by, granted, first_of, pairs_if, bound_with, removes, removed, shows_after, showing_from, NotFetch, NoFetch}
+use Rattle.play.specs.Histories.{Asked, opening, fetch, reading, integer, big_integer, time, Said, Entry, granted_by, granted, first_of, pairs_if, bound_with, removes, removed, shows_after, showing_from, NotFetch, NoFetch}
 use Rattle.play.specs.Rules.{opening_said, fetch_said, fetch_due, reading_due}
 use Rattle.play.specs.Machine.{State, start, opening_at, rest_of, shown_if, fetch_at, answer, after, Ideal}
 

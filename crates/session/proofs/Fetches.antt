@@ -13,7 +13,6 @@ use Rattle.layout.specs.Tables.{col, end, binds}
 use Rattle.layout.specs.Moves.{Beyond}
 use Rattle.layout.proofs.Binding.{binds_length, binds_at, binds_end_by, in_place_inside}
 use Rattle.rows.specs.declared.answers.Fetch.{Fetch}
-use Rattle.rows.specs.declared.answers.Fetch.TheVariants as fetch
 use Rattle.session.specs.declared.state.Session.{Session}
 use Rattle.rows.specs.Bounds.{all_carried, row_need, first_loss}
 use Rattle.rows.specs.Dues.{row_fetched, fetched}

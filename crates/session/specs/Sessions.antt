@@ -18,7 +18,7 @@ use Rattle.rows.specs.Standing.{pair_of, pairs_of, report_of, StandsWhole, Regro
 use Rattle.session.specs.declared.answers.Slip.{Slip}
 use Rattle.session.specs.declared.state.Session.{Session}
 use Rattle.session.specs.declared.state.Value.{Value}
-use Rattle.rows.specs.Bounds.{bound, all_carried, field_at}
+use Rattle.rows.specs.Bounds.{all_carried, field_at}
 use Rattle.rows.specs.Dues.{Shown, typed, placed, fetched}
 
 module _ {H : Type 0} where

@@ -1,6 +1,6 @@
 -- Reports and events, counted one after the other.
 -- Assumes nothing.
-use Rattle.std.proofs.Common.{◌≡◌, ℕ, suc, ◌+◌, ◌-◌, ◌^◌, ◌<◌, Bool, true, false, cond, ◌&&◌, eqb, ◌⊎◌, List, [], ◌∷◌, length, get_or, drop, Some, None, Option, sym, refl, ap, ◌∙◌, subst, inl, inr, ⊎_elim, arith}
+use Rattle.std.proofs.Common.{◌≡◌, ℕ, suc, ◌+◌, ◌^◌, ◌<◌, Bool, true, false, cond, ◌&&◌, eqb, ◌⊎◌, List, [], ◌∷◌, length, get_or, drop, Some, None, Option, sym, refl, ap, ◌∙◌, subst, inl, inr, ⊎_elim, arith}
 use Rattle.std.proofs.lemmas.List.{drop_more, length-map}
 use Rattle.std.proofs.lemmas.Bool.{cases_Bool, eq-eqb}
 use Rattle.mysql.specs.declared.bind.Column.{Column}
@@ -11,7 +11,7 @@ use Rattle.host.specs.Meanings.{Row, Event, row, failure, Meaning}
 use Rattle.host.specs.Calls.{no_record, no_report, field_of, Reported, in_order, all_end_by, carried, bind_error, after_bind, allows, NotAllowed, FailureCame}
 use Rattle.host.proofs.Bound.{bind_after}
 use Rattle.tally.specs.declared.totals.Totals.{Totals}
-use Rattle.tally.specs.Tallies.{own_record, own_records, null_count, byte_count, row_sum, rows_in, failures_in, fields_in, capped, counted, NoCount}
+use Rattle.tally.specs.Tallies.{own_record, own_records, null_count, byte_count, row_sum, rows_in, failures_in, fields_in, capped, NoCount}
 use Rattle.tally.specs.Reports.{null_reports, byte_reports, with_row}
 
 -- one report more

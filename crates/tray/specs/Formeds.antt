@@ -1,14 +1,14 @@
 -- What a tray means keeps to what every host's meaning keeps to.
-use Rattle.std.specs.Prelude.{◌≡◌, ℕ, zero, suc, ◌+◌, ◌*◌, ◌%◌, ◌^◌, ◌<◌, ◌≤◌, min, Bool, true, false, cond, List, [], ◌∷◌, length, Some, None, Option, ◌==◌, refl}
+use Rattle.std.specs.Prelude.{◌≡◌, ℕ, zero, suc, ◌+◌, ◌%◌, Bool, true, false, cond, length, Some, None, Option, ◌==◌, refl}
 use Rattle.std.proofs.Common.{sym, subst, arith}
 use Rattle.std.specs.List.{AllByRecursion}
 use Rattle.std.proofs.lemmas.List.FromFn.{length-map-range_with_len}
 use Rattle.std.proofs.lemmas.Bool.{eqb-true, and_parts}
-use Rattle.host.specs.Fields.{Field, null, held, FieldAt}
-use Rattle.host.specs.Meanings.{Row, Event, Meaning, Formed, RowFits, EventFits, CurrentFits}
+use Rattle.host.specs.Fields.{null, held, FieldAt}
+use Rattle.host.specs.Meanings.{Formed, RowFits, EventFits, CurrentFits}
 use Rattle.tray.specs.declared.tray.Tray.{Tray}
 use Rattle.tray.specs.Rows.{size_of_row, bytes_of_row, field_of_row, tray_row, rows_from}
-use Rattle.tray.specs.Trays.{tray_carries, row_now, next_of, left_of, means}
+use Rattle.tray.specs.Trays.{row_now, next_of, left_of, means}
 
 field_fits : (k : ℕ) (b : Bool) → FieldAt 253 (cond b null (held false (bytes_of_row k)))
 field_fits k true = tt

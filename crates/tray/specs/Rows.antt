@@ -1,6 +1,6 @@
 -- The rows of a tray: one column of text, made by rule. Row k, counted from 1, is null where k leaves 3 when divided by 5; any other has
 -- (37 times k) modulo 200 bytes, and byte j, counted from 0, is (k + j) modulo 256.
-use Rattle.std.specs.Prelude.{ℕ, zero, suc, ◌+◌, ◌*◌, ◌%◌, Bool, false, cond, List, [], ◌∷◌, map, ◌==◌}
+use Rattle.std.specs.Prelude.{ℕ, zero, suc, ◌+◌, ◌*◌, ◌%◌, false, cond, List, [], ◌∷◌, map, ◌==◌}
 use Rattle.std.specs.List.{range_with_len}
 use Rattle.mysql.specs.declared.bind.Column.{Column}
 use Rattle.host.specs.Fields.{Field, null, held}

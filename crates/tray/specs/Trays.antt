@@ -1,5 +1,5 @@
 -- What a tray means.
-use Rattle.std.specs.Prelude.{◌≡◌, ℕ, ◌+◌, ◌-◌, min, Bool, true, false, cond, ◌&&◌, List, [], ◌∷◌, Some, None, Option, ◌==◌}
+use Rattle.std.specs.Prelude.{◌≡◌, ℕ, ◌+◌, ◌-◌, min, Bool, cond, ◌&&◌, [], ◌∷◌, Some, None, Option, ◌==◌}
 use Rattle.host.specs.Meanings.{Row, Meaning}
 use Rattle.tray.specs.declared.tray.Tray.{Tray}
 use Rattle.tray.specs.Rows.{tray_row, rows_from, tray_columns}

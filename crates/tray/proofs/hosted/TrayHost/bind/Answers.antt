@@ -1,4 +1,4 @@
-use Rattle.std.proofs.Common.{◌≡◌, eqb, sym, ap, ◌∙◌, rules}
+use Rattle.std.proofs.Common.{eqb, sym, ap, ◌∙◌, rules}
 use Rattle.tray.specs.Trays.{means}
 use Rattle.host.proofs.Bound.{bind_after}
 use Rattle.tray.proofs.Written.{one_refused, one_granted, with_list}

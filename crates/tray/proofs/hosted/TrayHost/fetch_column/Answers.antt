@@ -1,7 +1,6 @@
-use Rattle.std.proofs.Common.{◌≡◌, ℕ, Bool, cond, ltb, List, [], ◌∷◌, length, get_or, Some, None, sym, refl, ap, ◌∙◌, arith, rules}
-use Rattle.host.specs.Calls.{no_record}
+use Rattle.std.proofs.Common.{refl, ap, rules}
 use Rattle.tray.specs.Rows.{tray_row}
-use Rattle.tray.specs.Trays.{row_now, means}
+use Rattle.tray.specs.Trays.{row_now}
 use Rattle.tray.proofs.Rowed.{record_bound}
 use Rattle.tray.proofs.hosted.TrayHost.fetch_column.Goals as goal
 
