@@ -6,7 +6,7 @@ use Rattle.std.specs.List.{AllByRecursion}
 use Rattle.std.proofs.lemmas.Bool.{eqb-true, and_parts}
 use Rattle.std.proofs.lemmas.List.{length-take}
 use Rattle.host.specs.Fields.{Field, null, FieldAt}
-use Rattle.host.specs.Meanings.{Event, Formed, RowFits, EventFits, CurrentFits, no_column}
+use Rattle.host.specs.Meanings.{Formed, RowFits, EventFits, CurrentFits, no_column}
 use Rattle.recording.specs.Format as recorded
 use Rattle.recording.specs.Views.{fields_in}
 use Rattle.recording.proofs.Fitting.{Fitting, fields_fit, events_fit, columns_fit}
