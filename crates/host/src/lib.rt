@@ -9,7 +9,7 @@ mod records;
 mod whole;
 
 use mysql::Column;
-pub use records::{BindRecord, Fetched, Report};
+pub use records::{BindRecord, ClientError, Fetched, PAST_COLUMN, Report};
 pub use whole::fetch_whole;
 
 // A client library that holds the result of one statement.

@@ -1,8 +1,12 @@
 // What the session and the client library hand each other.
+use mysql::Column;
+
+// What stands for a column past the last one.
+pub const PAST_COLUMN: Column = Column { code: 6, flags: 0 };
 
 // Where and how a column is to be written: its code, whether its numbers have no sign, and the bytes of the arena, from `start` on,
 // that it may be written to.
-#[derive(Clone, Copy, PartialEq, Eq, Debug)]
+#[derive(Clone, Copy, PartialEq, Eq, Debug, Default)]
 pub struct BindRecord {
     pub code: u8,
     pub unsigned: bool,
@@ -11,11 +15,22 @@ pub struct BindRecord {
 }
 
 // What came of a column: how long its bytes are in full, whether it is null, and whether it lost bytes or a figure.
-#[derive(Clone, Copy, PartialEq, Eq, Debug)]
+#[derive(Clone, Copy, PartialEq, Eq, Debug, Default)]
 pub struct Report {
     pub length: u64,
     pub is_null: bool,
     pub is_truncated: bool,
+}
+
+// What a call is refused with; the numbers are those of MySQL's client library.
+#[derive(Clone, Copy, PartialEq, Eq, Debug)]
+pub enum ClientError {
+    // The call does not fit the result, or what is bound of it.
+    InvalidParameter = 2034,
+    // A column cannot be asked for at a code.
+    UnsupportedType = 2036,
+    // No row is current.
+    NoData = 2051,
 }
 
 // What a fetch answers; the numbers are those of MySQL's C API.

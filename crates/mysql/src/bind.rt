@@ -1,7 +1,7 @@
 // How a column of a result is bound: the pair of code and flags that a type asks for, the type that such a pair stands for,
 // how many bytes a code takes, and which pair a column is bound with.
 ghost use Rattle.std.specs.Prelude.{◌≡◌, Ok};
-ghost use Rattle.mysql.specs.Types.{pair_of, type_of, size_of, known, read_back};
+ghost use Rattle.mysql.specs.Types.{pair_of, type_of, size_of, known, has, read_back};
 ghost use Rattle.mysql.specs.Taken.{flags_of, taken_pair};
 
 use crate::backend::MysqlType;
@@ -10,10 +10,19 @@ use crate::ffi::*;
 use crate::kept::is_kept;
 
 // A column of a result as the host describes it.
-#[derive(Clone, Copy, PartialEq, Eq, Debug)]
+#[derive(Clone, Copy, PartialEq, Eq, Debug, Default)]
 pub struct Column {
     pub code: u8,
     pub flags: u32,
+}
+
+impl Column {
+    // Whether its numbers have no sign.
+    pub fn is_unsigned(self) -> bool
+        ensures { result ≡ has self.flags 32 }
+    {
+        self.flags & UNSIGNED_FLAG != 0
+    }
 }
 
 // The code and flags that stand for a type.
