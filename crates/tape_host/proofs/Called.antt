@@ -8,13 +8,13 @@ use Rattle.host.specs.declared.records.BindRecord.{BindRecord}
 use Rattle.host.specs.declared.records.Report.{Report}
 use Rattle.host.specs.Meanings.{Event, failure, no_column}
 use Rattle.host.specs.Calls.{in_order, all_end_by, carried, bind_error, allows, record_of, no_record, with_error, part_error, PartRefused, FailureCame}
-use Rattle.recording.specs.declared.event.Event.{Event as EventView}
-use Rattle.recording.specs.declared.event.Event.TheVariants as view
-use Rattle.recording.specs.Decode.{take_event}
-use Rattle.recording.specs.Views.{columns_in, events_in, event_of, off}
-use Rattle.recording.proofs.Whole.{events_first, events_none}
-use Rattle.recording.proofs.Counted.{columns_count}
-use Rattle.tape_host.specs.declared.tape.Tape.{Tape}
+use Rattle.tape.specs.declared.event.Event.{Event as EventView}
+use Rattle.tape.specs.declared.event.Event.TheVariants as view
+use Rattle.tape.specs.Decode.{take_event}
+use Rattle.tape.specs.Views.{columns_in, events_in, event_of, off}
+use Rattle.tape.proofs.Whole.{events_first, events_none}
+use Rattle.tape.proofs.Counted.{columns_count}
+use Rattle.tape_host.specs.declared.tapes.Tape.{Tape}
 use Rattle.tape_host.specs.Tapes.{own_code, event_shown, first_columns, columns_of, current_of, places_of, is_bound, means}
 use Rattle.tape_host.specs.Wholes.{own_codes, Next}
 

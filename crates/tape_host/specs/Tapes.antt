@@ -9,9 +9,9 @@ use Rattle.host.specs.declared.records.BindRecord.{BindRecord}
 use Rattle.host.specs.Fields.{Field, null}
 use Rattle.host.specs.Meanings.{Row, Event, row, failure, Meaning, no_column}
 use Rattle.host.specs.Calls.{in_order}
-use Rattle.recording.specs.Format as recorded
-use Rattle.recording.specs.Views.{columns_in, fields_in, events_in}
-use Rattle.tape_host.specs.declared.tape.Tape.{Tape}
+use Rattle.tape.specs.Format as recorded
+use Rattle.tape.specs.Views.{columns_in, fields_in, events_in}
+use Rattle.tape_host.specs.declared.tapes.Tape.{Tape}
 
 -- a column carries its own code
 abbrev pub own_code : List Column → (column code : ℕ) → Bool

@@ -1,12 +1,12 @@
 // The columns of a tape, found in their bytes.
 ghost use Rattle.std.specs.Prelude.{◌≡◌, true, false, length, take, slice_index_or};
 ghost use Rattle.host.specs.Meanings.{no_column};
-ghost use Rattle.recording.specs.Views.{columns_in};
+ghost use Rattle.tape.specs.Views.{columns_in};
 ghost use Rattle.tape_host.specs.Wholes.{own_codes};
 
 use host::BindRecord;
 use mysql::Column;
-use recording::take_column;
+use tape::take_column;
 
 // How many bytes a column takes.
 const COLUMN_SIZE: usize = 5;

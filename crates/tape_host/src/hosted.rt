@@ -5,11 +5,11 @@ ghost use Rattle.tape_host.specs.Formeds.{formed};
 use crate::columns::{asks_own_codes, column_at, count_columns, first_columns};
 use crate::events::next_event;
 use crate::places::{all_end_by, are_in_order, copy_records};
-use crate::tape::Tape;
+use crate::tapes::Tape;
 use crate::write::{field_at, write_field, write_row};
 use host::{BindRecord, Fetched, Host, Report};
 use mysql::Column;
-use recording::{Event, Row};
+use tape::{Event, Row};
 
 // The error numbers of the client library.
 const INVALID_PARAMETER: u16 = 2034;

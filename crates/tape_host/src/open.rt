@@ -4,10 +4,10 @@ ghost use Rattle.tape_host.specs.Tapes.{columns_of, places_of, is_bound, Opened}
 
 use crate::columns::{count_columns, first_columns};
 use crate::places::{NO_RECORD, are_in_order};
-use crate::tape::Tape;
+use crate::tapes::Tape;
 use host::BindRecord;
 use mysql::Fault;
-use recording::Recording;
+use tape::Recording;
 
 impl<'a> Tape<'a> {
     // Takes bytes that are a tape, and refuses all others.

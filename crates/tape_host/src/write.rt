@@ -2,12 +2,12 @@
 ghost use Rattle.std.specs.Prelude.{◌≡◌, ℕ, ◌+◌, ◌<◌, min, true, false, length, drop, slice_index, slice_index_or};
 ghost use Rattle.host.specs.Fields.{null};
 ghost use Rattle.host.specs.Calls.{from_offset, PartReported, Stands, in_order, all_end_by};
-ghost use Rattle.recording.specs.Views.{field_of, row_of};
-ghost use Rattle.recording.specs.Recordings.{fields_left};
+ghost use Rattle.tape.specs.Views.{field_of, row_of};
+ghost use Rattle.tape.specs.Recordings.{fields_left};
 ghost use Rattle.tape_host.specs.Wholes.{Wrote};
 
 use host::{BindRecord, Report};
-use recording::{Field, Fields, Row};
+use tape::{Field, Fields, Row};
 
 // Copies bytes to a part's front, as many as fit.
 fn copy_front(bytes: &[u8], part: &mut [u8])

@@ -1,6 +1,6 @@
 use Rattle.std.proofs.Common.{◌≡◌, get_or, refl, ap, ◌∙◌, arith}
 use Rattle.host.specs.Fields.{null}
-use Rattle.recording.specs.Recordings.{fields_left}
+use Rattle.tape.specs.Recordings.{fields_left}
 use Rattle.tape_host.proofs.Copied.{left_more, left_first}
 use Rattle.tape_host.proofs.write.field_at.Goals as goal
 

@@ -1,7 +1,7 @@
 use Rattle.std.proofs.Common.{eqb, List, length, Option, sym, ap, ◌∙◌, arith}
 use Rattle.host.specs.declared.records.BindRecord.{BindRecord}
 use Rattle.host.proofs.Bound.{bind_after}
-use Rattle.recording.specs.Views.{columns_in}
+use Rattle.tape.specs.Views.{columns_in}
 use Rattle.tape_host.specs.Tapes.{means}
 use Rattle.tape_host.specs.Wholes.{own_codes}
 use Rattle.tape_host.proofs.Called.{width_few, bind_error_is, now_bound}

@@ -1,6 +1,6 @@
 use Rattle.std.proofs.Common.{◌-◌, ◌∷◌, length, sym, refl, ap, ◌∙◌, inr, rules}
 use Rattle.host.specs.Calls.{in_order, all_end_by}
-use Rattle.recording.specs.Views.{columns_in, events_in, event_of}
+use Rattle.tape.specs.Views.{columns_in, events_in, event_of}
 use Rattle.tape_host.proofs.Called.{allowed_says, ordered, failure_came}
 use Rattle.tape_host.proofs.hosted.TapeHost.fetch.Goals as goal
 

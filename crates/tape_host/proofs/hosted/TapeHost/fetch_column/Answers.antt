@@ -1,7 +1,7 @@
 use Rattle.std.proofs.Common.{◌≡◌, length, get_or, None, sym, refl, ap, ◌∙◌, subst, arith, rules}
 use Rattle.host.specs.Fields.{Field, null}
 use Rattle.host.specs.Calls.{record_of, no_record, from_offset, PartReported, Stands}
-use Rattle.recording.specs.Views.{columns_in, fields_in}
+use Rattle.tape.specs.Views.{columns_in, fields_in}
 use Rattle.tape_host.specs.Tapes.{shown, columns_of, places_of, current_of, means}
 use Rattle.tape_host.proofs.Called.{record_some, record_unbound, record_past, part_refused}
 use Rattle.tape_host.proofs.hosted.TapeHost.fetch_column.Goals as goal

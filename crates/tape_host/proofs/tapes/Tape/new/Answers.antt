@@ -1,6 +1,6 @@
-use Rattle.recording.specs.Recordings.{contents}
+use Rattle.tape.specs.Recordings.{contents}
 use Rattle.tape_host.proofs.Columned.{new_holds}
-use Rattle.tape_host.proofs.tape.Tape.new.Goals as goal
+use Rattle.tape_host.proofs.tapes.Tape.new.Goals as goal
 
 pub returns-in-Ok : goal.returns-in-Ok
 returns-in-Ok c =

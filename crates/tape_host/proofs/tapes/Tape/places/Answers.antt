@@ -1,7 +1,7 @@
 use Rattle.std.proofs.Common.{length, ap, ◌∙◌, arith}
-use Rattle.recording.specs.Views.{columns_in}
+use Rattle.tape.specs.Views.{columns_in}
 use Rattle.tape_host.proofs.Called.{width_few}
-use Rattle.tape_host.proofs.tape.Tape.places.Goals as goal
+use Rattle.tape_host.proofs.tapes.Tape.places.Goals as goal
 
 pub shared_ref_as_front-result : goal.shared_ref_as_front-result
 shared_ref_as_front-result c =

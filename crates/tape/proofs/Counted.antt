@@ -4,9 +4,9 @@ use Rattle.std.proofs.Common.{◌≡◌, ℕ, zero, suc, ◌+◌, ◌*◌, ◌/�
 use Rattle.std.proofs.lemmas.List.{get_or-drop}
 use Rattle.mysql.specs.declared.bind.Column.{Column}
 use Rattle.host.specs.Meanings.{no_column}
-use Rattle.recording.specs.Decode.{taken, broken, take_column}
-use Rattle.recording.specs.Views.{columns_in}
-use Rattle.recording.proofs.Walked.{columns_first, columns_none}
+use Rattle.tape.specs.Decode.{taken, broken, take_column}
+use Rattle.tape.specs.Views.{columns_in}
+use Rattle.tape.proofs.Walked.{columns_first, columns_none}
 
 -- how many there are
 pub columns_count : (bs : List ℕ) → length (columns_in bs) ≡ length bs / 5

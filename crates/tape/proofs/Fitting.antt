@@ -8,12 +8,12 @@ use Rattle.mysql.specs.declared.bind.Column.{Column}
 use Rattle.mysql.specs.Types.{size_of}
 use Rattle.host.specs.Fields.{Field, null, held, FieldAt}
 use Rattle.host.specs.Meanings.{ColumnFits, no_column}
-use Rattle.recording.specs.Format.{Event, row, failure}
-use Rattle.recording.specs.Decode.{Taken, taken, broken, given, take2, take4, fits, cut, take_held, take_field, take_fields, take_event}
-use Rattle.recording.specs.Views.{columns_in, fields_in, events_in}
-use Rattle.recording.proofs.Steps.{never, given_split, next_split, moved}
-use Rattle.recording.proofs.Same.{fits_sound, by_cond}
-use Rattle.recording.proofs.Walked.{fields_in_is}
+use Rattle.tape.specs.Format.{Event, row, failure}
+use Rattle.tape.specs.Decode.{Taken, taken, broken, given, take2, take4, fits, cut, take_held, take_field, take_fields, take_event}
+use Rattle.tape.specs.Views.{columns_in, fields_in, events_in}
+use Rattle.tape.proofs.Steps.{never, given_split, next_split, moved}
+use Rattle.tape.proofs.Same.{fits_sound, by_cond}
+use Rattle.tape.proofs.Walked.{fields_in_is}
 
 take2_fits : (bs : List ℕ) (n : ℕ) (r : List ℕ) → take2 bs ≡ taken n r → n < 2 ^ 16
 take2_fits [] n r e = never n r e
