@@ -4,3 +4,4 @@ pub mod Same
 pub mod Fitting
 pub mod Counted
 pub mod Whole
+pub mod OnBytes

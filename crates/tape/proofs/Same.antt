@@ -1,6 +1,6 @@
 -- The way back undoes the format, and takes nothing else for a tape.
 -- Assumes nothing.
-use Rattle.std.proofs.Common.{◌≡◌, ℕ, zero, suc, ◌+◌, ◌*◌, ◌/◌, ◌%◌, ◌^◌, ◌<◌, ◌≤◌, Bool, true, false, cond, not, eqb, leb, List, [], ◌∷◌, ◌++◌, length, get_or, take, drop, Some, None, Option, sym, refl, ap, ◌∙◌, subst, arith, lit<}
+use Rattle.std.proofs.Common.{◌≡◌, ℕ, zero, suc, ◌+◌, ◌*◌, ◌/◌, ◌%◌, ◌^◌, ◌<◌, ◌≤◌, Bool, true, false, cond, not, eqb, leb, List, [], ◌∷◌, ◌++◌, length, take, drop, Some, None, Option, sym, refl, ap, ◌∙◌, subst, arith, lit<}
 use Rattle.std.proofs.lemmas.List.{append_assoc, append-nil, take_at, drop_at, length-append, length-take, take-append-drop}
 use Rattle.std.proofs.lemmas.Bool.{le-leb, eq-eqb, leb-true, eqb-true, eqb-false, ne_eqb, not-true, not_from_false}
 use Rattle.std.specs.List.{flat_map, AllByRecursion}
@@ -115,10 +115,6 @@ tape_back bytes t h =
 
 abbrev pub Bytes : List ℕ → Type 0
 Bytes bs = AllByRecursion (λ b. b < 256) bs
-
-pub bytes_from : (bs : List ℕ) → ((i : ℕ) → get_or bs i 0 < 256) → Bytes bs
-bytes_from [] h = tt
-bytes_from (b ∷ bs) h = (h 0, bytes_from bs (λ i. h (suc i)))
 
 bytes_after : (xs r : List ℕ) → Bytes (xs ++ r) → Bytes r
 bytes_after [] r h = h

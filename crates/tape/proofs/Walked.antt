@@ -1,12 +1,11 @@
 -- What the steps over a tape's bytes take off their front.
 -- Assumes nothing.
-use Rattle.std.proofs.Common.{◌≡◌, ℕ, suc, ◌+◌, ◌-◌, ◌*◌, ◌%◌, ◌^◌, ◌<◌, ◌≤◌, not, eqb, List, [], ◌∷◌, length, get_or, take, drop, Some, None, sym, refl, ap, ◌∙◌, arith}
+use Rattle.std.proofs.Common.{◌≡◌, ℕ, suc, ◌+◌, ◌-◌, ◌*◌, ◌%◌, ◌^◌, ◌≤◌, List, [], ◌∷◌, length, get_or, take, drop, Some, None, sym, refl, ap, ◌∙◌, arith}
 use Rattle.std.proofs.lemmas.List.{take_rest}
-use Rattle.std.proofs.lemmas.Bool.{eq-eqb, ne_eqb}
 use Rattle.mysql.specs.declared.bind.Column.{Column}
 use Rattle.host.specs.Fields.{Field}
-use Rattle.tape.specs.Format.{Event, row, failure}
-use Rattle.tape.specs.Decode.{Taken, taken, broken, next, given, left, take2, take4, field_by, take_field, take_fields, take_column, take_failure, event_by, take_event, take_events}
+use Rattle.tape.specs.Format.{Event, row}
+use Rattle.tape.specs.Decode.{Taken, taken, broken, next, left, take_field, take_fields, take_column, event_by, take_event, take_events}
 use Rattle.tape.specs.Views.{columns_in, fields_in}
 use Rattle.tape.proofs.Steps.{never, next_split}
 
@@ -14,33 +13,7 @@ use Rattle.tape.proofs.Steps.{never, next_split}
 abbrev pub tail : List ℕ → List ℕ
 tail b = take (length b - 1) (drop 1 b)
 
-pub take2_at : (b : List ℕ) (n : ℕ) → 2 ≤ length b → n ≡ get_or b 0 0 + get_or b 1 0 * 256 → n < 2 ^ 16 → take2 b ≡ taken n (take (length b - 2) (drop 2 b))
-take2_at [] n l e m = absurd (omega arith)
-take2_at (a ∷ []) n l e m = absurd (omega arith)
-take2_at (a ∷ b ∷ r) n l e m = let z : (a + b * 256) % 2 ^ 16 ≡ n = omega arith in ap (λ k. taken k r) z ∙ ap (taken n) (sym (take_rest (a ∷ b ∷ r) 2))
-
-pub take4_at : (b : List ℕ) (n : ℕ) → 4 ≤ length b → n ≡ get_or b 0 0 + get_or b 1 0 * 256 + get_or b 2 0 * 65536 + get_or b 3 0 * 16777216 → n < 2 ^ 32 → take4 b ≡ taken n (take (length b - 4) (drop 4 b))
-take4_at [] n l e m = absurd (omega arith)
-take4_at (a ∷ []) n l e m = absurd (omega arith)
-take4_at (a ∷ b ∷ []) n l e m = absurd (omega arith)
-take4_at (a ∷ b ∷ c ∷ []) n l e m = absurd (omega arith)
-take4_at (a ∷ b ∷ c ∷ d ∷ r) n l e m =
-    let z : (a + b * 256 + c * 65536 + d * 16777216) % 2 ^ 32 ≡ n = omega arith in
-    ap (λ k. taken k r) z ∙ ap (taken n) (sym (take_rest (a ∷ b ∷ c ∷ d ∷ r) 4))
-
--- a field whose tag is t
-pub field_tag : (code t : ℕ) (b : List ℕ) → 1 ≤ length b → get_or b 0 0 ≡ t → take_field code b ≡ field_by code t (tail b)
-field_tag code t [] l e = absurd (omega arith)
-field_tag code t (a ∷ r) l e = ap (λ k. field_by code k r) e ∙ ap (field_by code t) (sym (take_rest (a ∷ r) 1))
-
 -- columns
-
-pub column_code : (b : List ℕ) → 1 ≤ length b → get_or b 0 0 < 256 → take_column b ≡ next (take4 (tail b)) (λ n r. taken (record { code = get_or b 0 0; flags = n }) r)
-column_code [] l m = absurd (omega arith)
-column_code (a ∷ r) l m =
-    let z : a % 256 ≡ a = omega arith in
-    ap (λ k. next (take4 r) (λ n s. taken (record { code = k; flags = n }) s)) z
-    ∙ ap (λ u. next (take4 u) (λ n s. taken (record { code = a; flags = n }) s)) (sym (take_rest (a ∷ r) 1))
 
 pub columns_first : (b : List ℕ) (c : Column) (r : List ℕ) → take_column b ≡ taken c r → (columns_in b ≡ c ∷ columns_in r) × (length b ≡ length r + 5)
 columns_first [] c r e = never c r e
@@ -75,13 +48,6 @@ pub left_none : {X : Type 0} (t : Taken X) → left t ≡ None → t ≡ broken
 left_none (taken x s) e = let z : ◌≡◌ {A = ℕ} 0 1 = cc in absurd (omega arith)
 left_none broken e = refl
 
-pub fields_more : (c : Column) (cs : List Column) (bs : List ℕ) (f : Field) (r : List ℕ) → take_field c.code bs ≡ taken f r → left (take_fields (c ∷ cs) bs) ≡ left (take_fields cs r)
-fields_more c cs bs f r e =
-    ap (λ t. left (next t (λ g q. next (take_fields cs q) (λ gs s. taken (g ∷ gs) s)))) e ∙ left_next (take_fields cs r) (λ gs. f ∷ gs)
-
-pub fields_stop : (c : Column) (cs : List Column) (bs : List ℕ) → take_field c.code bs ≡ broken → left (take_fields (c ∷ cs) bs) ≡ None
-fields_stop c cs bs e = ap (λ t. left (next t (λ g q. next (take_fields cs q) (λ gs s. taken (g ∷ gs) s)))) e
-
 pub fields_in_is : (cs : List Column) (bs : List ℕ) (fs : List Field) (r : List ℕ) → take_fields cs bs ≡ taken fs r → fields_in cs bs ≡ fs
 fields_in_is [] bs fs r h = cc
 fields_in_is (c ∷ cs) bs fs r h =
@@ -102,23 +68,6 @@ row_taken cs bs r h =
     let p = left_some (take_fields cs bs) r h in
     ap (λ t. next t (λ fs s. taken (row fs) s)) p.1 ∙ ap (λ fs. taken (row fs) r) (sym (fields_in_is cs bs p.0 r p.1))
 
-pub row_broken : (cs : List Column) (bs : List ℕ) → left (take_fields cs bs) ≡ None → event_by cs 0 bs ≡ broken
-row_broken cs bs h = ap (λ t. next t (λ fs s. taken (row fs) s)) (left_none (take_fields cs bs) h)
-
-pub failure_taken : (bs : List ℕ) (n : ℕ) (r : List ℕ) → take2 bs ≡ taken n r → (n ≡ 0 → ⊥) → take_failure bs ≡ taken (failure n) r
-failure_taken bs n r h z =
-    ap (λ t. next t (λ k s. given (not (eqb k 0)) (taken (failure k) s))) h ∙ ap (λ b. given (not b) (taken (failure n) r)) (ne_eqb n 0 z)
-
-pub failure_zero : (bs : List ℕ) (n : ℕ) (r : List ℕ) → take2 bs ≡ taken n r → n ≡ 0 → take_failure bs ≡ broken
-failure_zero bs n r h z =
-    ap (λ t. next t (λ k s. given (not (eqb k 0)) (taken (failure k) s))) h ∙ ap (λ b. given (not b) (taken (failure n) r)) (eq-eqb n 0 z)
-
-pub failure_broken : (bs : List ℕ) → take2 bs ≡ broken → take_failure bs ≡ broken
-failure_broken bs h = ap (λ t. next t (λ k s. given (not (eqb k 0)) (taken (failure k) s))) h
-
 pub events_more : (cs : List Column) (n : ℕ) (bs : List ℕ) (e : Event) (r : List ℕ) → take_event cs bs ≡ taken e r → left (take_events cs (suc n) bs) ≡ left (take_events cs n r)
 events_more cs n bs e r h =
     ap (λ t. left (next t (λ f q. next (take_events cs n q) (λ fs s. taken (f ∷ fs) s)))) h ∙ left_next (take_events cs n r) (λ fs. e ∷ fs)
-
-pub events_stop : (cs : List Column) (n : ℕ) (bs : List ℕ) → take_event cs bs ≡ broken → left (take_events cs (suc n) bs) ≡ None
-events_stop cs n bs h = ap (λ t. left (next t (λ f q. next (take_events cs n q) (λ fs s. taken (f ∷ fs) s)))) h

@@ -57,16 +57,8 @@ body_from cs n r = next (take_events cs n r) (λ es s. ended (record { columns =
 abbrev whole_of : List Column → ℕ → List ℕ → Contents
 whole_of cs n r = record { columns = cs; events = events_in cs n r }
 
-pub no_width : (b : List ℕ) → take2 b ≡ broken → take_tape b ≡ broken
-no_width b h = ap (λ t. next t (λ w r. next (take2 r) (λ n s. given (leb w 64) (take_body w n s)))) h
-
 -- a tape's counts are w and n, and s is what follows them
 module _ (b : List ℕ) (w : ℕ) (r : List ℕ) (hw : take2 b ≡ taken w r) where
-  pub no_count : take2 r ≡ broken → take_tape b ≡ broken
-  no_count h =
-      ap (λ t. next t (λ w r. next (take2 r) (λ n s. given (leb w 64) (take_body w n s)))) hw
-      ∙ ap (λ t. next t (λ n s. given (leb w 64) (take_body w n s))) h
-
   module _ (n : ℕ) (s : List ℕ) (hn : take2 r ≡ taken n s) where
     counted : take_tape b ≡ given (leb w 64) (take_body w n s)
     counted =

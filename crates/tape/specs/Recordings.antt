@@ -11,7 +11,7 @@ use Rattle.mysql.specs.declared.bind.Column.{Column}
 use Rattle.host.specs.Fields.{Field}
 use Rattle.tape.specs.Format.{Event, Contents, TapeOf, NoTape}
 use Rattle.tape.specs.Decode.{Taken, taken, broken}
-use Rattle.tape.specs.Views.{columns_in, fields_in, events_in}
+use Rattle.tape.specs.Views.{columns_in, events_in, row_of}
 
 -- what lies in the bytes of columns and the bytes of so many events
 abbrev pub contents_in : (columns events : List ℕ) (count : ℕ) → Contents
@@ -43,4 +43,4 @@ abbrev pub events_left : Events → List Event
 events_left s = events_in (columns_in s.columns.now) s.count s.bytes.now
 
 abbrev pub fields_left : Fields → List Field
-fields_left s = fields_in (columns_in s.columns.now) s.bytes.now
+fields_left s = row_of s.rest

@@ -1,22 +1,24 @@
 // A recorded result, and how it is gone through: its columns, its events, and the fields of a row, one after the other.
 ghost use Rattle.std.specs.Prelude.{◌≡◌, ◌^◌, ◌<◌, length};
-ghost use Rattle.tape.specs.Decode.{take_tape};
-ghost use Rattle.tape.specs.Views.{field_of, row_of, event_of};
+ghost use Rattle.std.specs.Option.{option_map};
+ghost use Rattle.tape.specs.Decode.{take_events, take_tape, left};
+ghost use Rattle.tape.specs.Views.{field_of, row_of, event_of, columns_in};
 ghost use Rattle.tape.specs.Recordings.{whole, Opened, contents_in, contents, Gives, columns_left, events_left, fields_left};
 ghost use Rattle.std.specs.Iterator.{at_most};
 
 use crate::event::{Event, Row};
 use crate::field::Field;
-use crate::walk::{skip_events, take_column, take_event, take_field, take_u16};
+use crate::walk::{take_column, take_event, take_field, take_u16};
 use mysql::{Column, Fault, Refusal};
 
 // The most columns that a tape has.
-const MOST_COLUMNS: usize = 64;
+pub const MOST_COLUMNS: usize = 64;
 
 // How many bytes a column takes.
-const COLUMN_SIZE: usize = 5;
+pub const COLUMN_SIZE: usize = 5;
 
-// Bytes that are a tape: those of its columns, those of its events, and how many events there are.
+// Bytes that are a tape: those of its columns, those of its events, and how many events there are. They stand here and not as `Events`: a
+// contract knows no bound of a count one struct further in, and `events` has to promise one.
 #[derive(Clone, Copy)]
 pub struct Recording<'a> {
     pub(crate) columns: &'a [u8],
@@ -35,14 +37,16 @@ fn read(bytes: &[u8]) -> Option<Recording<'_>>
     if width > MOST_COLUMNS || size > rest.len() {
         return None;
     }
-    let (columns, events) = rest.split_at(size);
-    let end = skip_events(columns, count, events)?;
-    if !end.is_empty() {
-        return None;
-    }
-    Some(Recording {
+    let (columns, bytes) = rest.split_at(size);
+    let events = Events {
         columns,
-        events,
+        bytes,
+        count,
+    };
+    let end = events.end()?;
+    end.is_empty().then_some(Recording {
+        columns,
+        events: bytes,
         count,
     })
 }
@@ -52,10 +56,7 @@ impl<'a> Recording<'a> {
     pub fn new(bytes: &'a [u8]) -> Result<Recording<'a>, Fault>
         ensures { Opened bytes.now result }
     {
-        match read(bytes) {
-            Some(recording) => Ok(recording),
-            None => Err(Fault::new(Refusal::BrokenTape)),
-        }
+        read(bytes).ok_or(Fault::new(Refusal::BrokenTape))
     }
 
     // The bytes of its columns, those of its events, and how many events there are.
@@ -94,10 +95,7 @@ impl<'a> Row<'a> {
         ensures all { fields_left result ≡ row_of self.now }
         ensures few { length (fields_left result) < 2 ^ 64 }
     {
-        Fields {
-            columns: self.columns,
-            bytes: self.bytes,
-        }
+        Fields { rest: *self }
     }
 }
 
@@ -129,6 +127,19 @@ pub struct Events<'a> {
     pub(crate) count: u16,
 }
 
+impl<'a> Events<'a> {
+    // The bytes after them.
+    fn end(&self) -> Option<&'a [u8]>
+        ensures { left (take_events (columns_in self.now.columns.now) self.now.count self.now.bytes.now) ≡ option_map (λ x. x.now) result }
+    {
+        let mut rest = self.bytes;
+        for _ in 0..self.count {
+            (_, rest) = take_event(self.columns, rest)?;
+        }
+        Some(rest)
+    }
+}
+
 impl<'a> Iterator for Events<'a> {
     type Item = Event<'a>;
 
@@ -137,28 +148,18 @@ impl<'a> Iterator for Events<'a> {
     ghost remaining = { λ s. at_most (length (events_left s)) };
 
     fn next(&mut self) -> Option<Event<'a>> {
-        if self.count == 0 {
-            return None;
-        }
-        match take_event(self.columns, self.bytes) {
-            Some((event, rest)) => {
-                self.bytes = rest;
-                self.count -= 1;
-                Some(event)
-            }
-            None => {
-                self.count = 0;
-                None
-            }
-        }
+        let count = self.count.checked_sub(1)?;
+        let (event, rest) = take_event(self.columns, self.bytes)?;
+        self.bytes = rest;
+        self.count = count;
+        Some(event)
     }
 }
 
-// The fields of a row that are to come.
+// The fields of a row that are to come, as what is left of the row.
 #[derive(Clone, Copy)]
 pub struct Fields<'a> {
-    pub(crate) columns: &'a [u8],
-    pub(crate) bytes: &'a [u8],
+    pub(crate) rest: Row<'a>,
 }
 
 impl<'a> Iterator for Fields<'a> {
@@ -169,17 +170,10 @@ impl<'a> Iterator for Fields<'a> {
     ghost remaining = { λ s. at_most (length (fields_left s)) };
 
     fn next(&mut self) -> Option<Field<'a>> {
-        let (column, columns) = take_column(self.columns)?;
-        match take_field(column.code, self.bytes) {
-            Some((field, rest)) => {
-                self.columns = columns;
-                self.bytes = rest;
-                Some(field)
-            }
-            None => {
-                self.columns = &[];
-                None
-            }
-        }
+        let Row { columns, bytes } = self.rest;
+        let (column, columns) = take_column(columns)?;
+        let (field, bytes) = take_field(column.code, bytes)?;
+        self.rest = Row { columns, bytes };
+        Some(field)
     }
 }

@@ -1,11 +1,13 @@
-// Steps over a tape's bytes: each takes one thing off their front, and gives it with the bytes after it.
+// Steps over a tape's bytes: each takes one thing off their front, and gives it with the bytes after it. The bytes that a field and an event
+// begin with are the format's.
 ghost use Rattle.std.specs.Prelude.{◌≡◌, ℕ};
 ghost use Rattle.std.specs.Option.{option_map};
-ghost use Rattle.tape.specs.Decode.{take2, take4, take_held, take_field, take_fields, take_column, take_event, take_events, left};
+ghost use Rattle.tape.specs.Decode.{take2, take4, take_held, take_field, take_fields, take_column, take_event, left};
 ghost use Rattle.tape.specs.Views.{field_of, event_of, columns_in, off, Columned};
 
 use crate::event::{Event, Row};
 use crate::field::Field;
+use crate::recording::Columns;
 use mysql::{Column, known_buffer_size_for_ffi_type};
 
 // The number that no failure has.
@@ -15,32 +17,25 @@ const NO_FAILURE: u16 = 0;
 pub fn take_u16(bytes: &[u8]) -> Option<(u16, &[u8])>
     ensures { take2 bytes.now ≡ off (λ n. n) result }
 {
-    let [a, b, rest @ ..] = bytes else {
-        return None;
-    };
-    Some((u16::from_le_bytes([*a, *b]), rest))
+    let (number, rest) = bytes.split_first_chunk()?;
+    Some((u16::from_le_bytes(*number), rest))
 }
 
 // A number in four bytes.
 pub fn take_u32(bytes: &[u8]) -> Option<(u32, &[u8])>
     ensures { take4 bytes.now ≡ off (λ n. n) result }
 {
-    let [a, b, c, d, rest @ ..] = bytes else {
-        return None;
-    };
-    Some((u32::from_le_bytes([*a, *b, *c, *d]), rest))
+    let (number, rest) = bytes.split_first_chunk()?;
+    Some((u32::from_le_bytes(*number), rest))
 }
 
-// A field that is not null, after its tag.
+// A field that is not null, after its first byte.
 fn take_held(code: u8, lost: bool, bytes: &[u8]) -> Option<(Field<'_>, &[u8])>
     ensures { take_held code lost bytes.now ≡ off field_of result }
 {
     let (length, rest) = take_u32(bytes)?;
     let length = length as usize;
-    let fits = match known_buffer_size_for_ffi_type(code) {
-        Some(size) => length == size,
-        None => !lost,
-    };
+    let fits = known_buffer_size_for_ffi_type(code).map_or(!lost, |size| length == size);
     if !fits || length > rest.len() {
         return None;
     }
@@ -64,9 +59,7 @@ pub fn take_field(code: u8, bytes: &[u8]) -> Option<(Field<'_>, &[u8])>
 pub fn take_column(bytes: &[u8]) -> Option<(Column, &[u8])>
     ensures { take_column bytes.now ≡ off (λ c. c) result }
 {
-    let [code, rest @ ..] = bytes else {
-        return None;
-    };
+    let (code, rest) = bytes.split_first()?;
     let (flags, rest) = take_u32(rest)?;
     Some((Column { code: *code, flags }, rest))
 }
@@ -75,12 +68,9 @@ pub fn take_column(bytes: &[u8]) -> Option<(Column, &[u8])>
 fn skip_fields<'a>(columns: &[u8], bytes: &'a [u8]) -> Option<&'a [u8]>
     ensures { left (take_fields (columns_in columns.now) bytes.now) ≡ option_map (λ x. x.now) result }
 {
-    let mut others = columns;
     let mut rest = bytes;
-    while let Some((column, after)) = take_column(others) {
-        let (_, next) = take_field(column.code, rest)?;
-        others = after;
-        rest = next;
+    for column in (Columns { bytes: columns }) {
+        (_, rest) = take_field(column.code, rest)?;
     }
     Some(rest)
 }
@@ -91,15 +81,9 @@ pub fn take_event<'a>(columns: &'a [u8], bytes: &'a [u8]) -> Option<(Event<'a>, 
     ensures columned { Columned columns.now result }
 {
     match bytes {
-        [0, fields @ ..] => {
-            let rest = skip_fields(columns, fields)?;
-            Some((
-                Event::Row(Row {
-                    columns,
-                    bytes: fields,
-                }),
-                rest,
-            ))
+        [0, bytes @ ..] => {
+            let rest = skip_fields(columns, bytes)?;
+            Some((Event::Row(Row { columns, bytes }), rest))
         }
         [1, number @ ..] => {
             let (number, rest) = take_u16(number)?;
@@ -110,16 +94,4 @@ pub fn take_event<'a>(columns: &'a [u8], bytes: &'a [u8]) -> Option<(Event<'a>, 
         }
         _ => None,
     }
-}
-
-// The bytes after so many events.
-pub fn skip_events<'a>(columns: &'a [u8], count: u16, bytes: &'a [u8]) -> Option<&'a [u8]>
-    ensures { left (take_events (columns_in columns.now) count bytes.now) ≡ option_map (λ x. x.now) result }
-{
-    let mut rest = bytes;
-    for _ in 0..count {
-        let (_, next) = take_event(columns, rest)?;
-        rest = next;
-    }
-    Some(rest)
 }

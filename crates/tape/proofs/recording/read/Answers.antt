@@ -1,5 +1,9 @@
-use Rattle.std.proofs.Common.{sym, ⊎_elim, arith}
+use Rattle.std.proofs.Common.{◌≡◌, ℕ, Bool, true, false, eqb, List, [], length, Option, sym, ap, ◌∙◌, ⊎_elim, arith}
+use Rattle.std.specs.Bool.{then_some}
 use Rattle.std.proofs.lemmas.Bool.{eqb-true, eqb-false}
+use Rattle.tape.specs.declared.recording.Recording.{Recording}
+use Rattle.tape.specs.Decode.{taken, broken, take_tape}
+use Rattle.tape.specs.Recordings.{contents, whole}
 use Rattle.tape.proofs.Whole.{too_wide, columns_missing, events_broken, too_long, all_there}
 use Rattle.tape.proofs.recording.read.Goals as goal
 
@@ -20,16 +24,21 @@ returns-in_err-end c =
     c.from-width.result c.split_at.result.0.now c.split_at.result.1.now c.from-width.ensures c.split_at.ensures.front c.split_at.ensures.back (omega arith)
     c.in_err-end.ensures)
 
-pub returns-then-not-is_empty : goal.returns-then-not-is_empty
-returns-then-not-is_empty c =
-    too_long c.args.bytes.now c.in_ok-width.width c.in_ok-width.rest.now c.in_ok-width.ensures
-    c.in_ok-count.count c.in_ok-count.rest.now c.in_ok-count.ensures (omega arith)
-    c.from-width.result c.split_at.result.0.now c.split_at.result.1.now c.from-width.ensures c.split_at.ensures.front c.split_at.ensures.back (omega arith)
-    c.in_ok-end.end.now c.in_ok-end.ensures (eqb-false _ 0 (sym c.if-not-is_empty.ensures))
+-- a recording, where nothing is left of the bytes
+where_ended : (bytes left : List ℕ) (ended : Bool) (r : Recording) (o : Option Recording) → ended ≡ eqb (length left) 0 → o ≡ then_some ended r
+    → (length left ≡ 0 → take_tape bytes ≡ taken (contents r) []) → ((length left ≡ 0 → ⊥) → take_tape bytes ≡ broken) → take_tape bytes ≡ whole o
+where_ended bytes left true r o e h there over = there (eqb-true (length left) 0 (sym e)) ∙ ap whole (sym h)
+where_ended bytes left false r o e h there over = over (eqb-false (length left) 0 (sym e)) ∙ ap whole (sym h)
 
 pub returns : goal.returns
 returns c =
-    all_there c.args.bytes.now c.in_ok-width.width c.in_ok-width.rest.now c.in_ok-width.ensures
+    let end = c.in_ok-end.end.now in
+    where_ended c.args.bytes.now end c.is_empty.result _ c.then_some.result c.is_empty.ensures c.then_some.ensures
+    (all_there c.args.bytes.now c.in_ok-width.width c.in_ok-width.rest.now c.in_ok-width.ensures
     c.in_ok-count.count c.in_ok-count.rest.now c.in_ok-count.ensures (omega arith)
     c.from-width.result c.split_at.result.0.now c.split_at.result.1.now c.from-width.ensures c.split_at.ensures.front c.split_at.ensures.back (omega arith)
-    c.in_ok-end.end.now c.in_ok-end.ensures (eqb-true _ 0 (sym c.if-not-is_empty.ensures))
+    end c.in_ok-end.ensures)
+    (too_long c.args.bytes.now c.in_ok-width.width c.in_ok-width.rest.now c.in_ok-width.ensures
+    c.in_ok-count.count c.in_ok-count.rest.now c.in_ok-count.ensures (omega arith)
+    c.from-width.result c.split_at.result.0.now c.split_at.result.1.now c.from-width.ensures c.split_at.ensures.front c.split_at.ensures.back (omega arith)
+    end c.in_ok-end.ensures)

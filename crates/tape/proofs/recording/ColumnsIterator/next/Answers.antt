@@ -1,9 +1,9 @@
-use Rattle.tape.proofs.Walked.{columns_first}
-use Rattle.tape.proofs.Steps.{shorter}
-use Rattle.tape.specs.Views.{columns_in}
-use Rattle.tape.proofs.recording.ColumnsIterator.next.Goals as goal
-use Rattle.std.proofs.iter.Next.{firm}
 use Rattle.std.proofs.Common.{rules}
+use Rattle.std.proofs.iter.Next.{firm}
+use Rattle.tape.specs.Views.{columns_in}
+use Rattle.tape.proofs.Steps.{shorter}
+use Rattle.tape.proofs.Walked.{columns_first}
+use Rattle.tape.proofs.recording.ColumnsIterator.next.Goals as goal
 
 pub returns : goal.returns
 returns c =
