@@ -4,7 +4,7 @@
 mod print;
 
 use anyhow::anyhow;
-use print::show_recording;
+use print::InLines;
 use std::process::ExitCode;
 use std::{env, fs};
 use tape::Recording;
@@ -21,9 +21,7 @@ fn show_file(rt: &HostRuntime, name: &str) -> anyhow::Result<bool> {
     };
     match Recording::new(&bytes) {
         Ok(recording) => {
-            let mut text = String::new(rt.alloc());
-            show_recording(&mut text, &recording)?;
-            print!(rt; "{name}: {text}")?;
+            print!(rt; "{name}: {}", InLines(recording))?;
             Ok(true)
         }
         Err(fault) => {
