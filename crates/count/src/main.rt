@@ -4,37 +4,26 @@
 mod count;
 
 use anyhow::anyhow;
-use count::{count_tape, count_tray};
-use tape::Recording;
+use count::Counted;
+use files::{end, print_file, print_held};
+use std::env;
 use std::process::ExitCode;
-use std::{env, fs};
-use words::InWords;
+use tally::tally;
+use tape_host::Tape;
+use tray::Tray;
 
 // What stands before the number of a tray's rows.
 const TRAY: &str = "--tray";
 
 // Prints the count of what a file holds, or why it is no tape, and says whether it is one.
 fn count_file(rt: &HostRuntime, name: &str) -> anyhow::Result<bool> {
-    let bytes = match fs::read(rt, name) {
-        Ok(bytes) => bytes,
-        Err(error) => {
-            eprintln!(rt; "{name}: cannot be read: {error}")?;
-            return Ok(false);
-        }
-    };
-    match Recording::new(&bytes) {
-        Ok(_) => {
-            let mut text = String::new(rt.alloc());
-            count_tape(&mut text, &bytes)?;
-            print!(rt; "{name}: {text}")?;
-            Ok(true)
-        }
-        Err(fault) => {
-            let fault = InWords(fault);
-            eprintln!(rt; "{name}: {fault}")?;
-            Ok(false)
-        }
-    }
+    print_file(rt, name, |bytes| {
+        let counted = Tape::new(bytes).map(|mut tape| tally(&mut tape).map_or(
+            Counted::Nothing,
+            Counted::Tape,
+        ));
+        print_held(rt, name, counted)
+    })
 }
 
 // Prints the count of a tray's rows, and says whether so many rows can be had.
@@ -43,34 +32,27 @@ fn count_rows(rt: &HostRuntime, rows: &str) -> anyhow::Result<bool> {
         eprintln!(rt; "{rows}: a tray has 0 to 65535 rows")?;
         return Ok(false);
     };
-    let mut text = String::new(rt.alloc());
-    count_tray(&mut text, rows)?;
-    print!(rt; "tray of {rows}: {text}")?;
+    let counted = tally(&mut Tray::new(rows)).map_or(Counted::Nothing, Counted::Tray);
+    print!(rt; "tray of {rows}: {counted}")?;
     Ok(true)
 }
 
 // Counts each file and tray that is named, and fails where one cannot be counted or none is named.
 fn run(rt: &HostRuntime) -> anyhow::Result<()> {
-    let mut named = false;
-    let mut all_counted = true;
-    let mut rows_next = false;
-    for word in env::args(rt)?.skip(1) {
-        let word = word.as_str();
-        named = true;
-        if rows_next {
-            rows_next = false;
-            all_counted &= count_rows(rt, word)?;
-        } else if word == TRAY {
-            rows_next = true;
-        } else {
-            all_counted &= count_file(rt, word)?;
-        }
-    }
-    if !named {
+    let mut words = env::args(rt)?.skip(1).peekable();
+    if words.peek().is_none() {
         return Err(anyhow!("name what to count: count FILE.. or count --tray N"));
     }
-    if rows_next {
-        return Err(anyhow!("--tray wants a number of rows, 0 to 65535"));
+    let mut all_counted = true;
+    while let Some(word) = words.next() {
+        if word.as_str() == TRAY {
+            let Some(rows) = words.next() else {
+                return Err(anyhow!("--tray wants a number of rows, 0 to 65535"));
+            };
+            all_counted &= count_rows(rt, rows.as_str())?;
+        } else {
+            all_counted &= count_file(rt, word.as_str())?;
+        }
     }
     if !all_counted {
         return Err(anyhow!("not everything that was named can be counted"));
@@ -78,13 +60,6 @@ fn run(rt: &HostRuntime) -> anyhow::Result<()> {
     Ok(())
 }
 
-// What went wrong is said on standard error, and ends the program with status 1.
 fn main(rt: HostRuntime) -> ExitCode {
-    match run(&rt) {
-        Ok(()) => ExitCode::SUCCESS,
-        Err(error) => {
-            let _ = eprintln!(rt; "count: {error}");
-            ExitCode::FAILURE
-        }
-    }
+    end(&rt, "count", run(&rt))
 }
