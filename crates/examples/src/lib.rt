@@ -4,6 +4,8 @@
 #[cfg(test)]
 mod readings_of;
 #[cfg(test)]
+mod refusal;
+#[cfg(test)]
 mod tapes;
 #[cfg(test)]
 mod trays;

@@ -2,19 +2,13 @@
 use host::{BindRecord, Fetched, Host, Report, fetch_whole};
 use tray::Tray;
 
-const NO_REPORT: Report = Report {
-    length: 0,
-    is_null: false,
-    is_truncated: false,
-};
-
 // A record for the one column.
 fn place(code: u8, start: usize, capacity: usize) -> BindRecord {
     BindRecord {
         code,
-        unsigned: false,
         start,
         capacity,
+        ..BindRecord::default()
     }
 }
 
@@ -33,7 +27,7 @@ fn binds(rt: HostRuntime) {
 fn fetches(rt: HostRuntime) {
     let mut tray = Tray::new(3);
     let mut arena = [9u8; 40];
-    let mut reports = [NO_REPORT];
+    let mut reports = [Report::default()];
     assert!(rt; tray.fetch(&mut arena, &mut reports) as u8 == 1 && tray.error_number() == 2034);
     assert!(rt; tray.bind(&[place(253, 1, 37)]));
     assert!(rt;
@@ -60,14 +54,14 @@ fn fetches(rt: HostRuntime) {
 fn columns(rt: HostRuntime) {
     let mut tray = Tray::new(2);
     let mut part = [0u8; 10];
-    let mut report = NO_REPORT;
+    let mut report = Report::default();
     assert!(rt; !tray.fetch_column(0, 0, &mut part, &mut report) && tray.error_number() == 2051);
     assert!(rt;
         fetch_whole(
             &mut tray,
             &[place(253, 0, 37)],
             &mut [0; 37],
-            &mut [NO_REPORT],
+            &mut [Report::default()],
         )
     );
     assert!(rt; !tray.fetch_column(1, 0, &mut part, &mut report) && tray.error_number() == 2034);

@@ -1,4 +1,5 @@
 // Examples from the rules, and from MySQL's reference of server errors.
+use crate::refusal::refusal_of;
 use mysql::*;
 use std::test::Fail;
 
@@ -7,13 +8,6 @@ const STRANGE: Column = Column {
     code: 253,
     flags: 0x0040_0000,
 };
-
-fn number_of(r: Result<u32, Fault>) -> u8 {
-    match r {
-        Ok(_) => 0,
-        Err(fault) => fault.number(),
-    }
-}
 
 #[test]
 fn wanted_types(rt: HostRuntime) -> Result<(), Fail> {
@@ -57,8 +51,8 @@ fn blob_reads_back_as_string(rt: HostRuntime) -> Result<(), Fail> {
 #[test]
 fn flags(rt: HostRuntime) -> Result<(), Fail> {
     assert_eq!(rt; known_flags(0x7C3F_FFFF)?, 0x7C3F_FFFF);
-    assert_eq!(rt; number_of(known_flags(0x0040_0000)), 7);
-    assert_eq!(rt; number_of(known_flags(0x8000_0000)), 7);
+    assert_eq!(rt; refusal_of(known_flags(0x0040_0000)), Some(7));
+    assert_eq!(rt; refusal_of(known_flags(0x8000_0000)), Some(7));
     assert!(rt;
         taken(None, STRANGE).is_err(),
         "its own flags are looked at"

@@ -12,18 +12,12 @@ const TWO: &[u8] =
 // No columns, and one row.
 const NO_COLUMNS: &[u8] = b"\x00\x00\x01\x00\x00";
 
-const NO_REPORT: Report = Report {
-    length: 0,
-    is_null: false,
-    is_truncated: false,
-};
-
 fn place(code: u8, start: usize, capacity: usize) -> BindRecord {
     BindRecord {
         code,
-        unsigned: false,
         start,
         capacity,
+        ..BindRecord::default()
     }
 }
 
@@ -47,7 +41,7 @@ fn binds(rt: HostRuntime) -> Result<(), Fail> {
 fn fetches(rt: HostRuntime) -> Result<(), Fail> {
     let mut tape = Tape::new(TWO)?;
     let mut arena = [9u8; 8];
-    let mut reports = [NO_REPORT; 2];
+    let mut reports = [Report::default(); 2];
     assert!(rt; tape.fetch(&mut arena, &mut reports) as u8 == 1 && tape.error_number() == 2034);
     assert!(rt; tape.bind(&[place(2, 0, 2), place(253, 2, 5)]));
     assert!(rt;
@@ -71,10 +65,10 @@ fn fetches(rt: HostRuntime) -> Result<(), Fail> {
 fn columns(rt: HostRuntime) -> Result<(), Fail> {
     let mut tape = Tape::new(TWO)?;
     let mut part = [0u8; 2];
-    let mut report = NO_REPORT;
+    let mut report = Report::default();
     assert!(rt; !tape.fetch_column(1, 0, &mut part, &mut report) && tape.error_number() == 2051);
     assert!(rt; tape.bind(&[place(2, 0, 2), place(253, 2, 3)]));
-    assert!(rt; tape.fetch(&mut [0; 5], &mut [NO_REPORT; 2]) as u8 == 101);
+    assert!(rt; tape.fetch(&mut [0; 5], &mut [Report::default(); 2]) as u8 == 101);
     assert!(rt; !tape.fetch_column(2, 0, &mut part, &mut report) && tape.error_number() == 2034);
     assert!(rt; tape.fetch_column(1, 3, &mut part, &mut report) && &part == b"lo");
     assert!(rt; !report.is_truncated && report.length == 5);
@@ -115,7 +109,7 @@ fn counts(rt: HostRuntime) -> Result<(), Fail> {
     assert!(rt; tally(&mut tray).ok_or("no count of the tray")? == of_tray);
     assert!(rt; tally(&mut tape).ok_or("no count of the tape")? == of_tape);
     assert!(rt;
-        tape.fetch(&mut [], &mut [NO_REPORT; 2]) as u8 == 100,
+        tape.fetch(&mut [], &mut [Report::default(); 2]) as u8 == 100,
         "the count fetched all"
     );
     Ok(())
