@@ -1,27 +1,35 @@
 -- Reports and events, counted one after the other.
 -- Assumes nothing.
-use Rattle.std.proofs.Common.{◌≡◌, ℕ, suc, ◌+◌, ◌^◌, ◌<◌, Bool, true, false, cond, ◌&&◌, eqb, ◌⊎◌, List, [], ◌∷◌, length, get_or, drop, Some, None, Option, sym, refl, ap, ◌∙◌, subst, inl, inr, ⊎_elim, arith}
-use Rattle.std.proofs.lemmas.List.{drop_more, length-map}
+use Rattle.std.proofs.Common.{◌≡◌, ℕ, suc, ◌+◌, ◌^◌, ◌<◌, Bool, true, false, cond, ◌&&◌, eqb, ◌⊎◌, List, [], ◌∷◌, length, get_or, Some, None, Option, fold, sym, refl, ap, ◌∙◌, subst, inl, inr, ⊎_elim, arith}
+use Rattle.std.proofs.lemmas.List.{length-map}
 use Rattle.std.proofs.lemmas.Bool.{cases_Bool, eq-eqb}
 use Rattle.mysql.specs.declared.bind.Column.{Column}
 use Rattle.host.specs.declared.records.BindRecord.{BindRecord}
 use Rattle.host.specs.declared.records.Report.{Report}
+use Rattle.host.specs.declared.records.Fetched.{Fetched}
+use Rattle.host.specs.declared.records.Fetched.TheVariants as answer
 use Rattle.host.specs.Fields.{Field, null, held}
 use Rattle.host.specs.Meanings.{Row, Event, row, failure, Meaning}
-use Rattle.host.specs.Calls.{no_record, no_report, field_of, Reported, in_order, all_end_by, carried, bind_error, after_bind, allows, NotAllowed, FailureCame}
+use Rattle.host.specs.Calls.{no_record, no_report, field_of, Reported, in_order, all_end_by, carried, bind_error, after_bind, allows, NotAllowed, FailureCame, RowCame, Fetches}
 use Rattle.host.proofs.Bound.{bind_after}
 use Rattle.tally.specs.declared.totals.Totals.{Totals}
 use Rattle.tally.specs.Tallies.{own_record, own_records, null_count, byte_count, row_sum, rows_in, failures_in, fields_in, capped, NoCount}
-use Rattle.tally.specs.Reports.{null_reports, byte_reports, with_row}
+use Rattle.tally.specs.Reports.{null_reports, byte_reports, with_report, with_row}
 
--- one report more
+-- reports, added one after the other
 
-module _ (rs : List Report) (i : ℕ) (l : i < length rs) where
-  pub nulls_more : (z : Bool) → (get_or rs i no_report).is_null ≡ z → null_reports (drop i rs) ≡ cond z 1 0 + null_reports (drop (i + 1) rs)
-  nulls_more z h = ap null_reports (drop_more rs i no_report l) ∙ ap (λ b. cond b 1 0 + null_reports (drop (i + 1) rs)) h
+same : (t : Totals) (nulls bytes : ℕ) → t.nulls ≡ nulls → t.bytes ≡ bytes → t ≡ record { rows = t.rows; failures = t.failures; nulls = nulls; bytes = bytes }
+same t nulls bytes n b = ap (λ x. record { rows = t.rows; failures = t.failures; nulls = x; bytes = t.bytes }) n ∙ ap (λ x. record { rows = t.rows; failures = t.failures; nulls = nulls; bytes = x }) b
 
-  pub bytes_more : (z : Bool) → (get_or rs i no_report).is_null ≡ z → byte_reports (drop i rs) ≡ cond z 0 (get_or rs i no_report).length + byte_reports (drop (i + 1) rs)
-  bytes_more z h = ap byte_reports (drop_more rs i no_report l) ∙ ap (λ b. cond b 0 (get_or rs i no_report).length + byte_reports (drop (i + 1) rs)) h
+pub reports_added : (rs : List Report) (t : Totals) → t.nulls < 2 ^ 64 → t.bytes < 2 ^ 64
+    → fold with_report t rs ≡ record { rows = t.rows; failures = t.failures; nulls = capped (t.nulls + null_reports rs); bytes = capped (t.bytes + byte_reports rs) }
+reports_added [] t n b = same t _ _ (omega arith) (omega arith)
+reports_added (r ∷ rs) t n b =
+    elim r.is_null as (λ z. fold with_report (cond z (record t { nulls = capped (t.nulls + 1) }) (record t { bytes = capped (t.bytes + r.length) })) rs
+    ≡ record { rows = t.rows; failures = t.failures; nulls = capped (t.nulls + (cond z 1 0 + null_reports rs)); bytes = capped (t.bytes + (cond z 0 r.length + byte_reports rs)) }) [
+      | true ↦ reports_added rs (record t { nulls = capped (t.nulls + 1) }) (omega arith) b ∙ same _ _ _ (omega arith) (omega arith)
+      | false ↦ reports_added rs (record t { bytes = capped (t.bytes + r.length) }) n (omega arith) ∙ same _ _ _ (omega arith) (omega arith)
+    ]
 
 -- reports count for what their fields count for
 
@@ -156,7 +164,7 @@ still_allowed t m m₀ n g h =
     ∙ eq-eqb n (length m.columns) (h ∙ ap length (sym g.columns))
 
 pub failed_came : (m m' : Meaning) (rs rs' : List Report) (a a' : List ℕ) → allows m (length a) (length rs) ≡ true → NotAllowed m m' rs rs' a a' ⊎ FailureCame m m' rs rs' a a' → FailureCame m m' rs rs' a a'
-failed_came m m' rs rs' a a' ok (inl h) = let e = h.refused in let z : ◌≡◌ {A = ℕ} 0 1 = cc in absurd (omega arith)
+failed_came m m' rs rs' a a' ok (inl h) = let e = h.refused in cc
 failed_came m m' rs rs' a a' ok (inr h) = h
 
 pub fewer : {X : Type 0} (xs ys rest : List X) (x : X) → xs ≡ x ∷ rest → ys ≡ rest → length ys < length xs
@@ -181,9 +189,14 @@ module _ (m m' : Meaning) (bs : List BindRecord) (e : bs ≡ own_records m.colum
   no_count refused = ⊎_elim
       (λ (h : carried m 0 own ≡ true).
       let x = refused ∙ ap (λ ys. eqb (bind_error m ys) 0) e ∙ ap (λ n. eqb n 0) (own_error true h) in
-      let z : ◌≡◌ {A = ℕ} 0 1 = cc in absurd (omega arith))
+      cc)
       (λ (h : carried m 0 own ≡ false). record {
         lacks = h;
         after = after_own ∙ sym (bind_after m own 2036 (own_error false h));
       })
       (cases_Bool (carried m 0 own))
+
+-- a fetch that brought a row, truncated or not
+pub row_fetched : {r : Fetched} (m m' : Meaning) (rs rs' : List Report) (a a' : List ℕ) → (r ≡ answer.Row) ⊎ (r ≡ answer.Truncated) → Fetches r m m' rs rs' a a' → (z : Bool) × RowCame z m m' rs rs' a a'
+row_fetched m m' rs rs' a a' (inl e) h = (false, subst (λ (r : Fetched). Fetches r m m' rs rs' a a') e h)
+row_fetched m m' rs rs' a a' (inr e) h = (true, subst (λ (r : Fetched). Fetches r m m' rs rs' a a') e h)

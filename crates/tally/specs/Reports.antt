@@ -12,6 +12,10 @@ abbrev pub byte_reports : List Report → ℕ
 byte_reports [] = 0
 byte_reports (r ∷ rs) = cond r.is_null 0 r.length + byte_reports rs
 
+-- a null more, or as many bytes more as the field has
+abbrev pub with_report : Totals → Report → Totals
+with_report t r = cond r.is_null (record t { nulls = capped (t.nulls + 1) }) (record t { bytes = capped (t.bytes + r.length) })
+
 abbrev pub with_row : List Report → Totals → Totals
 with_row rs t = record {
   rows = capped (t.rows + 1);
