@@ -1,7 +1,8 @@
 -- Reports and events, counted one after the other.
 -- Assumes nothing.
-use Rattle.std.proofs.Common.{◌≡◌, ℕ, suc, ◌+◌, ◌^◌, ◌<◌, Bool, true, false, cond, ◌&&◌, eqb, ◌⊎◌, List, [], ◌∷◌, length, get_or, Some, None, Option, fold, sym, refl, ap, ◌∙◌, subst, inl, inr, ⊎_elim, arith}
+use Rattle.std.proofs.Common.{◌≡◌, ℕ, suc, ◌+◌, ◌^◌, ◌<◌, Bool, true, false, cond, ◌&&◌, eqb, ◌⊎◌, List, [], ◌∷◌, length, get_or, Some, None, Option, fold, sum_by, sym, refl, ap, ◌∙◌, subst, inl, inr, ⊎_elim, arith}
 use Rattle.std.proofs.lemmas.List.{length-map}
+use Rattle.std.proofs.lemmas.List.Sums.{sum_by-cons}
 use Rattle.std.proofs.lemmas.Bool.{cases_Bool, eq-eqb}
 use Rattle.mysql.specs.declared.bind.Column.{Column}
 use Rattle.host.specs.declared.records.BindRecord.{BindRecord}
@@ -14,7 +15,7 @@ use Rattle.host.specs.Calls.{no_record, no_report, field_of, Reported, in_order,
 use Rattle.host.proofs.Bound.{bind_after}
 use Rattle.tally.specs.declared.totals.Totals.{Totals}
 use Rattle.tally.specs.Tallies.{own_record, own_records, null_count, byte_count, row_sum, rows_in, failures_in, fields_in, capped, NoCount}
-use Rattle.tally.specs.Reports.{null_reports, byte_reports, with_report, with_row}
+use Rattle.tally.specs.Reports.{nulls_of, bytes_of, null_reports, byte_reports, with_report, with_row}
 
 -- reports, added one after the other
 
@@ -25,19 +26,20 @@ pub reports_added : (rs : List Report) (t : Totals) → t.nulls < 2 ^ 64 → t.b
     → fold with_report t rs ≡ record { rows = t.rows; failures = t.failures; nulls = capped (t.nulls + null_reports rs); bytes = capped (t.bytes + byte_reports rs) }
 reports_added [] t n b = same t _ _ (omega arith) (omega arith)
 reports_added (r ∷ rs) t n b =
-    elim r.is_null as (λ z. fold with_report (cond z (record t { nulls = capped (t.nulls + 1) }) (record t { bytes = capped (t.bytes + r.length) })) rs
-    ≡ record { rows = t.rows; failures = t.failures; nulls = capped (t.nulls + (cond z 1 0 + null_reports rs)); bytes = capped (t.bytes + (cond z 0 r.length + byte_reports rs)) }) [
-      | true ↦ reports_added rs (record t { nulls = capped (t.nulls + 1) }) (omega arith) b ∙ same _ _ _ (omega arith) (omega arith)
-      | false ↦ reports_added rs (record t { bytes = capped (t.bytes + r.length) }) n (omega arith) ∙ same _ _ _ (omega arith) (omega arith)
-    ]
+    (elim r.is_null as (λ z. null_reports (r ∷ rs) ≡ cond z 1 0 + null_reports rs → byte_reports (r ∷ rs) ≡ cond z 0 r.length + byte_reports rs
+    → fold with_report (cond z (record t { nulls = capped (t.nulls + 1) }) (record t { bytes = capped (t.bytes + r.length) })) rs
+    ≡ record { rows = t.rows; failures = t.failures; nulls = capped (t.nulls + null_reports (r ∷ rs)); bytes = capped (t.bytes + byte_reports (r ∷ rs)) }) [
+      | true ↦ λ p q. reports_added rs (record t { nulls = capped (t.nulls + 1) }) (omega arith) b ∙ same _ _ _ (omega arith) (omega arith)
+      | false ↦ λ p q. reports_added rs (record t { bytes = capped (t.bytes + r.length) }) n (omega arith) ∙ same _ _ _ (omega arith) (omega arith)
+    ]) (sum_by-cons nulls_of r rs) (sum_by-cons bytes_of r rs)
 
 -- reports count for what their fields count for
 
-null_one : (f : Field) (n : ℕ) (r : Report) → Reported f n r → cond r.is_null 1 0 ≡ null_count f
+null_one : (f : Field) (n : ℕ) (r : Report) → Reported f n r → nulls_of r ≡ null_count f
 null_one null n r h = ap (λ b. cond b 1 0) h.0
 null_one (held lost bs) n r h = ap (λ b. cond b 1 0) h.0
 
-byte_one : (f : Field) (n : ℕ) (r : Report) → Reported f n r → cond r.is_null 0 r.length ≡ byte_count f
+byte_one : (f : Field) (n : ℕ) (r : Report) → Reported f n r → bytes_of r ≡ byte_count f
 byte_one null n r h = ap (λ b. cond b 0 r.length) h.0
 byte_one (held lost bs) n r h = ap (λ b. cond b 0 r.length) h.0 ∙ h.1
 
@@ -53,23 +55,16 @@ module _ (fields : Row) where
       let z : i + suc k ≡ suc i + k = omega arith in
       subst (λ (n : ℕ). Reported (field_of fields n (get_or ps k no_record)) (get_or ps k no_record).capacity (get_or rs k no_report)) z (h (suc k) (omega arith))
 
-  pub nulls_are : (i : ℕ) (ps : List BindRecord) (rs : List Report) → length rs ≡ length ps → AllReported i ps rs → null_reports rs ≡ row_sum null_count fields i ps
-  nulls_are i [] [] n h = refl
-  nulls_are i [] (r ∷ rs) n h = absurd (omega arith)
-  nulls_are i (p ∷ ps) [] n h = absurd (omega arith)
-  nulls_are i (p ∷ ps) (r ∷ rs) n h =
-      let a = null_one (field_of fields i p) p.capacity r (first_reported i p ps r rs h) in
-      let b = nulls_are (suc i) ps rs (omega arith) (rest_reported i p ps r rs h) in
-      omega arith
-
-  pub bytes_are : (i : ℕ) (ps : List BindRecord) (rs : List Report) → length rs ≡ length ps → AllReported i ps rs → byte_reports rs ≡ row_sum byte_count fields i ps
-  bytes_are i [] [] n h = refl
-  bytes_are i [] (r ∷ rs) n h = absurd (omega arith)
-  bytes_are i (p ∷ ps) [] n h = absurd (omega arith)
-  bytes_are i (p ∷ ps) (r ∷ rs) n h =
-      let a = byte_one (field_of fields i p) p.capacity r (first_reported i p ps r rs h) in
-      let b = bytes_are (suc i) ps rs (omega arith) (rest_reported i p ps r rs h) in
-      omega arith
+  -- where a report counts for what its field counts for, the reports count for what the row counts for
+  pub counts_are : (of_report : Report → ℕ) (of_field : Field → ℕ) → ((f : Field) (n : ℕ) (r : Report) → Reported f n r → of_report r ≡ of_field f)
+      → (i : ℕ) (ps : List BindRecord) (rs : List Report) → length rs ≡ length ps → AllReported i ps rs → sum_by of_report rs ≡ row_sum of_field fields i ps
+  counts_are of_report of_field fits i [] [] n h = refl
+  counts_are of_report of_field fits i [] (r ∷ rs) n h = absurd (omega arith)
+  counts_are of_report of_field fits i (p ∷ ps) [] n h = absurd (omega arith)
+  counts_are of_report of_field fits i (p ∷ ps) (r ∷ rs) n h =
+      let a = fits (field_of fields i p) p.capacity r (first_reported i p ps r rs h) in
+      let b = counts_are of_report of_field fits (suc i) ps rs (omega arith) (rest_reported i p ps r rs h) in
+      sum_by-cons of_report r rs ∙ omega arith
 
 -- places without room are in order and end by the end of any arena
 
@@ -114,8 +109,8 @@ module _ (t : Totals) (m m₀ : Meaning) (g : Going t m m₀) where
       let told' : AllReported fields 0 bs rs = subst (λ (ps : List BindRecord). AllReported fields 0 ps rs) same
       (λ k l. let z : k ≡ 0 + k = omega arith in subst (λ (i : ℕ). Reported (field_of fields i (get_or places k no_record)) (get_or places k no_record).capacity (get_or rs k no_report)) z (told k l)) in
       let long : length rs ≡ length bs = n ∙ sym (length-map m₀.columns own_record) in
-      let ns = nulls_are fields 0 bs rs long told' in
-      let ys = bytes_are fields 0 bs rs long told' in
+      let ns = counts_are fields nulls_of null_count null_one 0 bs rs long told' in
+      let ys = counts_are fields bytes_of byte_count byte_one 0 bs rs long told' in
       let coming : m'.coming ≡ rest = ap (λ (x : Meaning). x.coming) after in
       record {
         columns = ap (λ (x : Meaning). x.columns) after ∙ g.columns;
