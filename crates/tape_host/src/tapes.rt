@@ -10,7 +10,7 @@ pub struct Tape<'a> {
     pub(crate) left: u16,
     // the bytes of the current row, from its first field on
     pub(crate) current: Option<&'a [u8]>,
-    pub(crate) bound: bool,
-    pub(crate) records: [BindRecord; 64],
+    // the bind list, if there is one, at the front of an array: a tape is Copy, and an ArrayVec is not
+    pub(crate) records: Option<[BindRecord; 64]>,
     pub(crate) error: u16,
 }
