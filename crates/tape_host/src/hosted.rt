@@ -1,34 +1,40 @@
 // A tape is a host.
+ghost use Rattle.std.specs.Prelude.{◌≡◌, false};
+ghost use Rattle.host.specs.Calls.{with_error, number_of};
 ghost use Rattle.tape_host.specs.Tapes.{means};
 ghost use Rattle.tape_host.specs.Formeds.{formed};
 
-use crate::columns::{asks_own_codes, column_at, count_columns, first_columns};
+use crate::columns::{asks_own_codes, column_at, count_columns};
 use crate::events::next_event;
 use crate::places::{all_end_by, are_in_order, copy_records};
 use crate::tapes::Tape;
 use crate::write::{field_at, write_field, write_row};
-use host::{BindRecord, Fetched, Host, Report};
+use host::{BindRecord, ClientError, Fetched, Host, Report};
 use mysql::Column;
 use tape::{Event, Row};
 
-// The error numbers of the client library.
-const INVALID_PARAMETER: u16 = 2034;
+impl Tape<'_> {
+    // Refuses a call, for this reason.
+    fn refuse(&mut self, why: ClientError) -> bool
+        ensures refused { result ≡ false }
+        ensures after { means self.new ≡ with_error (number_of why) (means self.old) }
+    {
+        self.error = why as u16;
+        false
+    }
+}
 
-const UNSUPPORTED_TYPE: u16 = 2036;
-
-const NO_DATA: u16 = 2051;
-
-impl<'a> Host for Tape<'a> {
+impl Host for Tape<'_> {
     ghost meaning = { means };
 
     ghost formed = { formed };
 
     fn column_count(&self) -> usize {
-        count_columns(first_columns(self.columns))
+        count_columns(self.columns)
     }
 
     fn column(&self, i: usize) -> Column {
-        column_at(first_columns(self.columns), i)
+        column_at(self.columns, i)
     }
 
     fn error_number(&self) -> u16 {
@@ -36,32 +42,27 @@ impl<'a> Host for Tape<'a> {
     }
 
     fn can_fetch(&self, arena: usize, reports: usize) -> bool {
-        self.is_bound() && all_end_by(arena, self.places()) && reports == self.column_count()
+        self.records.is_some() && all_end_by(arena, self.places()) && reports == self.column_count()
     }
 
     fn bind(&mut self, records: &[BindRecord]) -> bool {
-        let columns = first_columns(self.columns);
-        if records.len() != count_columns(columns) || !are_in_order(records) {
-            self.error = INVALID_PARAMETER;
-            return false;
+        if records.len() != self.column_count() || !are_in_order(records) {
+            return self.refuse(ClientError::InvalidParameter);
         }
-        if !asks_own_codes(columns, records) {
-            self.error = UNSUPPORTED_TYPE;
-            return false;
+        if !asks_own_codes(self.columns, records) {
+            return self.refuse(ClientError::UnsupportedType);
         }
-        self.records = copy_records(records);
-        self.bound = true;
+        self.records = Some(copy_records(records));
         self.error = 0;
         true
     }
 
     fn fetch(&mut self, arena: &mut [u8], reports: &mut [Report]) -> Fetched {
         if !self.can_fetch(arena.len(), reports.len()) {
-            self.error = INVALID_PARAMETER;
+            self.refuse(ClientError::InvalidParameter);
             return Fetched::Failed;
         }
-        let columns = first_columns(self.columns);
-        let Some((event, rest)) = next_event(columns, self.left, self.events) else {
+        let Some((event, rest)) = next_event(self.columns, self.left, self.events) else {
             self.left = 0;
             self.current = None;
             self.error = 0;
@@ -95,16 +96,17 @@ impl<'a> Host for Tape<'a> {
         report: &mut Report,
     ) -> bool {
         let Some(bytes) = self.current else {
-            self.error = NO_DATA;
-            return false;
+            return self.refuse(ClientError::NoData);
         };
-        if column >= self.places().len() || !self.is_bound() {
-            self.error = INVALID_PARAMETER;
-            return false;
+        if column >= self.places().len() {
+            return self.refuse(ClientError::InvalidParameter);
         }
         self.error = 0;
-        let columns = first_columns(self.columns);
-        let field = field_at(Row { columns, bytes }, column);
+        let row = Row {
+            columns: self.columns,
+            bytes,
+        };
+        let field = field_at(row, column);
         *report = write_field(field, offset, part);
         true
     }
@@ -112,7 +114,7 @@ impl<'a> Host for Tape<'a> {
     fn free(&mut self) {
         self.left = 0;
         self.current = None;
-        self.bound = false;
+        self.records = None;
         self.error = 0;
     }
 }
