@@ -1,19 +1,16 @@
 -- The laws over what was written.
 -- Assumes nothing.
-use Rattle.std.proofs.Common.{◌≡◌, ℕ, suc, ◌+◌, ◌-◌, ◌^◌, ◌<◌, ◌≤◌, true, false, cond, ◌&&◌, eqb, ltb, leb, List, [], ◌∷◌, ◌++◌, length, ℤ, pos, negsuc, Some, None, Ok, Err, decimal as written, sym, refl, ap, ◌∙◌, subst, inl, inr, ⊎_elim, arith, rules}
-use Rattle.std.proofs.lemmas.Str.Parse.{IsNumeralModel, numerals_by_fold}
+use Rattle.std.proofs.Common.{◌≡◌, ℕ, suc, ◌+◌, ◌-◌, ◌^◌, ◌<◌, ◌≤◌, true, false, cond, ◌&&◌, eqb, ltb, leb, List, [], ◌∷◌, ◌++◌, length, ℤ, pos, negsuc, Some, None, Ok, Err, decimal as written, sym, refl, ap, ◌∙◌, subst, inl, inr, ⊎_elim, arith}
+use Rattle.numeric.proofs.Scan.{own, reads_as}
 use Rattle.std.proofs.lemmas.Fmt.{digits_decimal, digits_value-decimal, decimal_nonempty}
 use Rattle.std.proofs.lemmas.Bool.{le-leb, ltb-true, ne_eqb, and_parts, cases_Bool}
 use Rattle.std.proofs.lemmas.Bool.Decides.{nat_tests}
 use Rattle.mysql.specs.Faults.{refused}
-use Rattle.mysql.specs.declared.fault.Refusal.TheVariants.{OutOfRange, NotUtf8, ManyDots}
+use Rattle.mysql.specs.declared.fault.Refusal.TheVariants.{OutOfRange}
 use Rattle.numeric.specs.Utf8.{utf8}
-use Rattle.numeric.specs.Decimals.{dots, before_dot, digit, digits, numeral, value_from, natural, positive, negative, integer_text, decimal}
+use Rattle.numeric.specs.Decimals.{dots, before_dot, digit, digits, numeral, value_from, natural, positive, negative, integer_text}
 use Rattle.numeric.specs.Laws.{Fraction, PrintedReadsBack}
 use Rattle.numeric.proofs.Characters.{add_1, is_one}
-
-own : IsNumeralModel (λ ds. digits ds ≡ true) (value_from 0)
-own = numerals_by_fold _ (search rules) value_from (search rules)
 
 digit_low : (b : ℕ) → digit b ≡ true → 48 ≤ b
 digit_low b h = grind (arith, nat_tests)
@@ -88,13 +85,6 @@ below half n z e =
     (λ h. ltb-true n half h)
     (λ h. let k = ap (λ t. cond t (Ok z) (Err (refused OutOfRange))) (sym h) ∙ e in let w : ◌≡◌ {A = ℕ} 0 1 = cc in absurd (omega arith))
     (cases_Bool (ltb n half))
-
--- a text with these three facts reads as what stands before its dot
-reads_as : (half : ℕ) (bs ds : List ℕ) → utf8 bs ≡ true → dots bs ≤ 1 → before_dot bs ≡ ds → decimal half bs ≡ integer_text half ds
-reads_as half bs ds u d b =
-    ap (λ t. cond t (cond (leb (dots bs) 1) (integer_text half (before_dot bs)) (Err (refused ManyDots))) (Err (refused NotUtf8))) u
-    ∙ ap (λ t. cond t (integer_text half (before_dot bs)) (Err (refused ManyDots))) (le-leb (dots bs) 1 d)
-    ∙ ap (integer_text half) b
 
 pub printed : PrintedReadsBack
 printed half (pos n) f h l r k =

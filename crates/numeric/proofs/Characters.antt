@@ -1,8 +1,8 @@
 -- The grammar's characters are the encodings of the scalar values, so that the grammar's UTF-8 is the library's.
 -- Assumes nothing.
-use Rattle.std.proofs.Common.{◌≡◌, ℕ, ◌+◌, ◌-◌, ◌*◌, ◌/◌, ◌<◌, ◌≤◌, true, ◌&&◌, ◌||◌, eqb, ◌⊎◌, List, [], ◌∷◌, ◌++◌, IsUtf8, sym, refl, ap, ◌∙◌, subst, inl, inr, ⊎_elim, arith}
+use Rattle.std.proofs.Common.{◌≡◌, ℕ, ◌+◌, ◌-◌, ◌*◌, ◌/◌, ◌<◌, ◌≤◌, true, false, ◌&&◌, ◌||◌, eqb, ◌⊎◌, List, [], ◌∷◌, ◌++◌, IsUtf8, sym, refl, ap, ◌∙◌, subst, inl, inr, ⊎_elim, arith}
 use lib.Utf8.{scalar, scalars, encode, encodes, next, scalar_cases}
-use Rattle.std.proofs.lemmas.Bool.{cases_lt, lt-ltb, le-ltb, and_parts, and_from, or_cases, or_left, or_right}
+use Rattle.std.proofs.lemmas.Bool.{cases_Bool, cases_lt, lt-ltb, le-ltb, and_parts, and_from, or_cases, or_left, or_right}
 use Rattle.std.proofs.lemmas.Bool.Decides.{nat_tests}
 use Rattle.mysql.specs.Ranges.{between}
 use Rattle.numeric.specs.Utf8.{tail, one, two, three, four, utf8}
@@ -248,3 +248,6 @@ from_grammar (a ∷ b ∷ c ∷ d ∷ r) e =
     (or_cases (three a b c && utf8 (d ∷ r)) (four a b c d && utf8 r) f))
     (or_cases (two a b && utf8 (c ∷ d ∷ r)) ((three a b c && utf8 (d ∷ r)) || (four a b c d && utf8 r)) g))
     (or_cases (one a && utf8 (b ∷ c ∷ d ∷ r)) ((two a b && utf8 (c ∷ d ∷ r)) || ((three a b c && utf8 (d ∷ r)) || (four a b c d && utf8 r))) e)
+
+pub not_in_grammar : (bs : List ℕ) → (IsUtf8 bs → ⊥) → utf8 bs ≡ false
+not_in_grammar bs n = ⊎_elim (λ e. absurd (n (from_grammar bs e))) (λ e. e) (cases_Bool (utf8 bs))
