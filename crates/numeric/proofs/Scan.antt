@@ -1,6 +1,6 @@
 -- The parts of numeric text in the library's words: its dots, what stands before the first, and the integer that `parse` finds there.
 -- Assumes nothing.
-use Rattle.std.proofs.Common.{◌≡◌, ℕ, zero, suc, ◌+◌, ◌-◌, ◌^◌, ◌<◌, ◌≤◌, ◌≤ℤ◌, ◌<ℤ◌, negsuc, ⊎_elim, Bool, true, false, cond, ◌&&◌, eqb, ltb, leb, List, [], ◌∷◌, length, ℤ, pos, neg_ℤ, Some, None, Ok, Err, Option, Result, w64, refl, ap, ◌∙◌, subst, inl, inr, arith, rules}
+use Rattle.std.proofs.Common.{◌≡◌, ℕ, zero, suc, ◌+◌, ◌-◌, ◌^◌, ◌<◌, ◌≤◌, ◌≤ℤ◌, ◌<ℤ◌, negsuc, ⊎_elim, Bool, true, false, cond, eqb, ltb, leb, List, [], ◌∷◌, length, ℤ, pos, neg_ℤ, Some, None, Ok, Err, Result, w64, refl, ap, ◌∙◌, inl, inr, arith, rules}
 use Rattle.std.specs.List.{count_by, position_or_len, before_first}
 use Rattle.std.specs.Str.Parse.{ParsesSigned}
 use Rattle.std.proofs.lemmas.Str.Parse.{IsNumeralModel, numerals_by_fold, parse_signed_plain, parse_signed_minus, parse_signed_plus}
@@ -13,7 +13,7 @@ use Rattle.mysql.specs.Faults.{refused}
 use Rattle.mysql.specs.declared.fault.Fault.{Fault}
 use Rattle.mysql.specs.declared.fault.Refusal.TheVariants.{NotUtf8, ManyDots, InvalidInteger}
 use Rattle.numeric.specs.Utf8.{utf8}
-use Rattle.numeric.specs.Decimals.{dots, before_dot, digits, numeral, value_from, natural, integer_text, positive, negative, decimal}
+use Rattle.numeric.specs.Decimals.{dots, before_dot, digits, value_from, natural, integer_text, positive, negative, decimal}
 use Rattle.numeric.specs.Targets.{in_range}
 
 pub own : IsNumeralModel (λ ds. digits ds ≡ true) (value_from 0)
@@ -98,9 +98,9 @@ unparsed half (b ∷ bs) h p =
       ]
     ]
 
-pub limited_in : (half : ℕ) (x : ℤ) → neg_ℤ (pos half) ≤ℤ x → x <ℤ pos half → limited half x ≡ Ok x
-limited_in half (pos n) l h = let f : ltb n half ≡ true = lt-ltb n half (omega (arith, ints)) in rw f
-limited_in half (negsuc n) l h = let f : ltb n half ≡ true = lt-ltb n half (omega (arith, ints)) in rw f
+pub limited_in : (half : ℕ) (x : ℤ) → neg_ℤ (pos half) ≤ℤ x → x <ℤ pos half → (limited half x ≡ Ok x) × (in_range half x ≡ Ok x)
+limited_in half (pos n) l h = let f : ltb n half ≡ true = lt-ltb n half (omega (arith, ints)) in (rw f, rw f)
+limited_in half (negsuc n) l h = let f : ltb n half ≡ true = lt-ltb n half (omega (arith, ints)) in (rw f, rw f)
 
 pub limited_low : (half : ℕ) (x : ℤ) → x <ℤ neg_ℤ (pos half) → limited half x ≡ Err (refused InvalidInteger)
 limited_low half (pos n) l = absurd (omega (arith, ints))
@@ -116,45 +116,3 @@ reads_as half bs ds u d b =
     ap (λ t. cond t (cond (leb (dots bs) 1) (integer_text half (before_dot bs)) (Err (refused ManyDots))) (Err (refused NotUtf8))) u
     ∙ ap (λ t. cond t (integer_text half (before_dot bs)) (Err (refused ManyDots))) (le-leb (dots bs) 1 d)
     ∙ ap (integer_text half) b
-
--- what is found lies in the range
-
-found : (t : Bool) (limit n m : ℕ) → ◌≡◌ {A = Option ℕ} (cond (t && leb n limit) (Some n) None) (Some m) → m ≤ limit
-found false limit n m e = let z : ◌≡◌ {A = ℕ} 0 1 = cc in absurd (omega arith)
-found true limit n m e =
-    elim (leb_tells n limit) [
-      | inl p ↦ let q : n ≡ m = cc (rw p.0 at e) in omega arith
-      | inr p ↦ let z : ◌≡◌ {A = ℕ} 0 1 = cc (rw p.0 at e) in absurd (omega arith)
-    ]
-
-within : (limit : ℕ) (ds : List ℕ) (m : ℕ) → natural limit ds ≡ Some m → m ≤ limit
-within limit ds m e = found (numeral ds) limit (value_from 0 ds) m e
-
-positive_in : (half : ℕ) (o : Option ℕ) (z : ℤ) → 0 < half → ((m : ℕ) → o ≡ Some m → m ≤ half - 1) → positive o ≡ Ok z → in_range half z ≡ Ok z
-positive_in half (Some m) z h k e =
-    let l = k m refl in
-    let q : pos m ≡ z = cc in
-    let f : ltb m half ≡ true = lt-ltb m half (omega arith) in
-    subst (λ (x : ℤ). in_range half x ≡ Ok x) q (rw f)
-positive_in half None z h k e = let w : ◌≡◌ {A = ℕ} 0 1 = cc in absurd (omega arith)
-
-minus_in : (half m : ℕ) → 0 < half → m ≤ half → in_range half (neg_ℤ (pos m)) ≡ Ok (neg_ℤ (pos m))
-minus_in half zero h l = let f : ltb 0 half ≡ true = lt-ltb 0 half h in rw f
-minus_in half (suc m) h l = let f : ltb m half ≡ true = lt-ltb m half (omega arith) in rw f
-
-negative_in : (half : ℕ) (o : Option ℕ) (z : ℤ) → 0 < half → ((m : ℕ) → o ≡ Some m → m ≤ half) → negative o ≡ Ok z → in_range half z ≡ Ok z
-negative_in half (Some m) z h k e =
-    let q : neg_ℤ (pos m) ≡ z = cc in
-    subst (λ (x : ℤ). in_range half x ≡ Ok x) q (minus_in half m h (k m refl))
-negative_in half None z h k e = let w : ◌≡◌ {A = ℕ} 0 1 = cc in absurd (omega arith)
-
-pub text_in : (half : ℕ) (s : List ℕ) (z : ℤ) → 0 < half → integer_text half s ≡ Ok z → in_range half z ≡ Ok z
-text_in half [] z h e = let w : ◌≡◌ {A = ℕ} 0 1 = cc in absurd (omega arith)
-text_in half (b ∷ bs) z h e =
-    elim (eqb_tells b 45) [
-      | inl p ↦ negative_in half (natural half bs) z h (λ m q. within half bs m q) (rw p.0 at e)
-      | inr p ↦ elim (eqb_tells b 43) [
-        | inl q ↦ positive_in half (natural (half - 1) bs) z h (λ m r. within (half - 1) bs m r) (rw (p.0, q.0) at e)
-        | inr q ↦ positive_in half (natural (half - 1) (b ∷ bs)) z h (λ m r. within (half - 1) (b ∷ bs) m r) (rw (p.0, q.0) at e)
-      ]
-    ]

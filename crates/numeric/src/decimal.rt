@@ -1,6 +1,7 @@
 // Numeric text as an integer. (In the original this stands with the readings of integers.)
-ghost use Rattle.std.specs.Prelude.{◌≡◌, ℕ, ◌^◌, ◌<◌, ◌≤◌};
+ghost use Rattle.std.specs.Prelude.{◌≡◌, ◌^◌, ◌<◌, ◌≤◌, Ok, IfOk};
 ghost use Rattle.mysql.specs.Answers.{through};
+ghost use Rattle.numeric.specs.Targets.{in_range};
 ghost use Rattle.numeric.specs.Decimals.{dots, before_dot, integer_text, decimal};
 
 use crate::target::Target;
@@ -24,7 +25,8 @@ fn whole_part(text: &str) -> &str
 fn integer_part(text: &str, half: u64) -> Result<i64, Fault>
     requires low { 0 < half }
     requires high { half ≤ 2 ^ 63 }
-    ensures { result ≡ integer_text half text.now }
+    ensures is { result ≡ integer_text half text.now }
+    ensures inside { IfOk result (λ x. in_range half x ≡ Ok x) }
 {
     let half = i128::from(half);
     match text.parse::<i64>() {

@@ -1,10 +1,10 @@
-use Rattle.std.proofs.Common.{◌≡◌, ℕ, ◌<◌, false, leb, sym, ap, ◌∙◌, arith, w64, SFits, rules}
+use Rattle.std.proofs.Common.{◌≡◌, ℕ, false, leb, sym, ap, ◌∙◌, arith, w64, SFits, rules}
 use Rattle.std.proofs.lemmas.Int.{to_z-of_z}
 use Rattle.std.proofs.lemmas.Bool.{lt-leb}
 use Rattle.std.proofs.lemmas.Result.{err_from_is_err_and}
 use Rattle.numeric.specs.Decimals.{dots, before_dot, integer_text}
 use Rattle.numeric.specs.Targets.{in_range}
-use Rattle.numeric.proofs.Scan.{reads_as, text_in}
+use Rattle.numeric.proofs.Scan.{reads_as}
 use Rattle.numeric.proofs.Characters.{in_grammar, not_in_grammar}
 use Rattle.numeric.proofs.decimal.decimal_to_integer.Goals as goal
 
@@ -26,7 +26,7 @@ returns-in_err-integer_part g c =
     let e = ap before_dot (sym c.in-Ok.ensures.cases.0) ∙ sym c.whole_part.ensures in
     let r = reads_as g.T.Target.half b w u (omega (arith, c.count_dots.ensures)) e in
     let p = err_from_is_err_and c.from_residual.result c.from_residual.ensures.1 in
-    rw (p.1, p.2) (c.in_err-integer_part.ensures ∙ ap (λ (n : ℕ). integer_text n w) c.half_range.ensures.is ∙ sym r)
+    rw (p.1, p.2) (c.in_err-integer_part.ensures.is ∙ ap (λ (n : ℕ). integer_text n w) c.half_range.ensures.is ∙ sym r)
 
 pub returns : goal.returns
 returns g c =
@@ -36,8 +36,7 @@ returns g c =
     let u = in_grammar b c.in-Ok.ensures.cases.1 in
     let e = ap before_dot (sym c.in-Ok.ensures.cases.0) ∙ sym c.whole_part.ensures in
     let r = reads_as h b w u (omega (arith, c.count_dots.ensures)) e in
-    let k = c.in_ok-integer_part.ensures ∙ ap (λ (n : ℕ). integer_text n w) c.half_range.ensures.is in
-    let l : 0 < h = omega (arith, c.half_range.ensures.is, c.half_range.ensures.low) in
+    let k = c.in_ok-integer_part.ensures.is ∙ ap (λ (n : ℕ). integer_text n w) c.half_range.ensures.is in
     let z = c.in_ok-integer_part.field-0 in
     let f : SFits w64 z = search rules in
-    c.narrow.ensures ∙ ap (in_range h) (to_z-of_z w64 z f) ∙ text_in h w z l (sym k) ∙ k ∙ sym r
+    c.narrow.ensures ∙ ap (in_range h) (to_z-of_z w64 z f) ∙ ap (λ (n : ℕ). in_range n z) (sym c.half_range.ensures.is) ∙ c.in_ok-integer_part.ensures.inside ∙ k ∙ sym r

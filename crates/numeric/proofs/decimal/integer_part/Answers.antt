@@ -8,10 +8,10 @@ pub returns-in-Ok : goal.returns-in-Ok
 returns-in-Ok c =
     let l = limited_in c.args.half c.in-Ok.x (omega (arith, ints)) (omega (arith, ints)) in
     let p = parsed c.args.half c.args.text.now c.in-Ok.x c.requires.low c.in-Ok.ensures.value.0 in
-    search rules
+    record { is = search rules; inside = search rules }
 
-pub returns-in_default : goal.returns-in_default
-returns-in_default c =
+pub returns-in_default-clause-is : goal.returns-in_default-clause-is
+returns-in_default-clause-is c =
     elim c.in_default.branch [
       | in_default-via-in-Ok+then-half-from+else-from-half w ↦
           let l = limited_high c.args.half w.in-Ok.x (omega (arith, ints)) in
