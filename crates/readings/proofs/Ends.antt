@@ -1,8 +1,8 @@
--- What the two tests of a float against the ends -2^63 and 2^63 tell of it, in both formats.
+-- What the two tests of a float against the ends -2^63 and 2^63 tell of it.
 -- Assumes nothing.
 use Rattle.std.proofs.Common.{◌≡◌, ℕ, suc, ◌+◌, ◌*◌, ◌/◌, ◌^◌, ◌<◌, ◌≤◌, Bool, true, false, ◌&&◌, ◌||◌, eqb, ltb, leb, ℤ, pos, negsuc, Ok, Err, Result, sym, refl, ◌∙◌, true≢false, mul_comm, mul-one, arith, lit<, pow_pos}
 use native.Mathlib.Nat.{min-eq_left, div-le_of_le-mul}
-use lib.Ieee.{Float, nan, inf, fin, up, down, le, lt, eq, to_signed, of_bits, of_fields, odd, binary32, binary64}
+use lib.Ieee.{Float, nan, inf, fin, up, down, le, lt, eq, to_signed, of_bits, of_fields, odd, binary64}
 use lib.Count.{count_trailing_zeros}
 use Rattle.std.proofs.lemmas.Bool.{leb-true}
 use Rattle.std.proofs.lemmas.Bool.Decides.{nat_tests}
@@ -17,7 +17,7 @@ high = fin false 1 (pos 63)
 abbrev pub low : Float
 low = fin true 1 (pos 63)
 
--- the two constants of each format are the ends
+-- the two constants are the ends
 pub high64 : of_bits binary64 4890909195324358656 ≡ high
 unfolding of_bits of_fields odd count_trailing_zeros
 high64 = refl
@@ -25,14 +25,6 @@ high64 = refl
 pub low64 : of_bits binary64 14114281232179134464 ≡ low
 unfolding of_bits of_fields odd count_trailing_zeros
 low64 = refl
-
-pub high32 : of_bits binary32 1593835520 ≡ high
-unfolding of_bits of_fields odd count_trailing_zeros
-high32 = refl
-
-pub low32 : of_bits binary32 3741319168 ≡ low
-unfolding of_bits of_fields odd count_trailing_zeros
-low32 = refl
 
 pub down_pos : (e : ℤ) → 0 < down e
 down_pos (pos k) = lit< tt
