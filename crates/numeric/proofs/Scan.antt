@@ -1,6 +1,6 @@
 -- The parts of numeric text in the library's words: its dots, what stands before the first, and the integer that `parse` finds there.
 -- Assumes nothing.
-use Rattle.std.proofs.Common.{◌≡◌, ℕ, zero, suc, ◌+◌, ◌-◌, ◌^◌, ◌<◌, ◌≤◌, ◌≤ℤ◌, ◌<ℤ◌, negsuc, ⊎_elim, Bool, true, false, cond, eqb, ltb, leb, List, [], ◌∷◌, length, ℤ, pos, neg_ℤ, Some, None, Ok, Err, Result, w64, refl, ap, ◌∙◌, inl, inr, arith, rules}
+use Rattle.std.proofs.Common.{◌≡◌, ℕ, zero, suc, ◌+◌, ◌-◌, ◌^◌, ◌<◌, ◌≤◌, ◌≤ℤ◌, ◌<ℤ◌, negsuc, ⊎_elim, Bool, true, false, cond, eqb, ltb, leb, List, [], ◌∷◌, length, ℤ, pos, neg_ℤ, Some, None, Ok, Err, Result, w64, refl, ◌∙◌, inl, inr, arith, rules}
 use Rattle.std.specs.List.{count_by, position_or_len, before_first}
 use Rattle.std.specs.Str.Parse.{ParsesSigned}
 use Rattle.std.proofs.lemmas.Str.Parse.{IsNumeralModel, numerals_by_fold, parse_signed_plain, parse_signed_minus, parse_signed_plus}
@@ -11,7 +11,7 @@ use Rattle.std.proofs.lemmas.Bool.Decides.{leb_tells, eqb_tells}
 use Rattle.std.proofs.lemmas.Int.{ints}
 use Rattle.mysql.specs.Faults.{refused}
 use Rattle.mysql.specs.declared.fault.Fault.{Fault}
-use Rattle.mysql.specs.declared.fault.Refusal.TheVariants.{NotUtf8, ManyDots, InvalidInteger}
+use Rattle.mysql.specs.declared.fault.Refusal.TheVariants.{InvalidInteger}
 use Rattle.numeric.specs.Utf8.{utf8}
 use Rattle.numeric.specs.Decimals.{dots, before_dot, digits, value_from, natural, integer_text, positive, negative, decimal}
 use Rattle.numeric.specs.Targets.{in_range}
@@ -46,7 +46,7 @@ abbrev limited : ℕ → ℤ → Result ℤ Fault
 limited half (pos n) = cond (ltb n half) (Ok (pos n)) (Err (refused InvalidInteger))
 limited half (negsuc n) = cond (ltb n half) (Ok (negsuc n)) (Err (refused InvalidInteger))
 
-natural_are : (limit : ℕ) (ds : List ℕ) → digits ds ≡ true → 0 < length ds → natural limit ds ≡ cond (leb (value_from 0 ds) limit) (Some (value_from 0 ds)) None
+pub natural_are : (limit : ℕ) (ds : List ℕ) → digits ds ≡ true → 0 < length ds → natural limit ds ≡ cond (leb (value_from 0 ds) limit) (Some (value_from 0 ds)) None
 natural_are limit [] d l = absurd (omega arith)
 natural_are limit (b ∷ bs) d l = rw d
 
@@ -112,7 +112,4 @@ limited_high half (negsuc n) l = absurd (omega (arith, ints))
 
 -- a text with these three facts reads as what stands before its dot
 pub reads_as : (half : ℕ) (bs ds : List ℕ) → utf8 bs ≡ true → dots bs ≤ 1 → before_dot bs ≡ ds → decimal half bs ≡ integer_text half ds
-reads_as half bs ds u d b =
-    ap (λ t. cond t (cond (leb (dots bs) 1) (integer_text half (before_dot bs)) (Err (refused ManyDots))) (Err (refused NotUtf8))) u
-    ∙ ap (λ t. cond t (integer_text half (before_dot bs)) (Err (refused ManyDots))) (le-leb (dots bs) 1 d)
-    ∙ ap (integer_text half) b
+reads_as half bs ds u d b = rw (u, le-leb (dots bs) 1 d, b)
