@@ -1,4 +1,4 @@
-use Rattle.std.proofs.Common.{◌≡◌, ℕ, false, leb, sym, ap, ◌∙◌, arith, w64, SFits, rules}
+use Rattle.std.proofs.Common.{Ok, ◌≡◌, ℕ, false, leb, sym, ap, ◌∙◌, arith, w64, SFits, rules}
 use Rattle.std.proofs.lemmas.Int.{to_z-of_z}
 use Rattle.std.proofs.lemmas.Bool.{lt-leb}
 use Rattle.std.proofs.lemmas.Result.{err_from_is_err_and}
@@ -39,4 +39,5 @@ returns g c =
     let k = c.in_ok-integer_part.ensures.is ∙ ap (λ (n : ℕ). integer_text n w) c.half_range.ensures.is in
     let z = c.in_ok-integer_part.field-0 in
     let f : SFits w64 z = search rules in
-    c.narrow.ensures ∙ ap (in_range h) (to_z-of_z w64 z f) ∙ ap (λ (n : ℕ). in_range n z) (sym c.half_range.ensures.is) ∙ c.in_ok-integer_part.ensures.inside ∙ k ∙ sym r
+    let i : in_range h z ≡ Ok z = rw (← c.half_range.ensures.is) c.in_ok-integer_part.ensures.inside in
+    rw (c.narrow.ensures, r, ← k, to_z-of_z w64 z f) i
