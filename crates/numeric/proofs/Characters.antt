@@ -1,11 +1,11 @@
 -- The grammar's characters are the encodings of the scalar values, so that the grammar's UTF-8 is the library's.
 -- Assumes nothing.
-use Rattle.std.proofs.Common.{◌≡◌, ℕ, ◌+◌, ◌-◌, ◌*◌, ◌/◌, ◌<◌, ◌≤◌, true, ◌&&◌, ◌||◌, eqb, ◌⊎◌, List, [], ◌∷◌, ◌++◌, IsUtf8, sym, refl, ap, ◌∙◌, subst, inl, inr, ⊎_elim, arith}
+use Rattle.std.proofs.Common.{◌≡◌, Bool, ℕ, ◌+◌, ◌-◌, ◌*◌, ◌/◌, ◌<◌, ◌≤◌, true, false, ◌&&◌, ◌||◌, ◌⊎◌, List, [], ◌∷◌, ◌++◌, IsUtf8, sym, refl, ◌∙◌, subst, inl, inr, ⊎_elim, arith}
 use lib.Utf8.{scalar, scalars, encode, encodes, next, scalar_cases}
-use Rattle.std.proofs.lemmas.Bool.{cases_lt, lt-ltb, le-ltb, and_parts, and_from, or_cases, or_left, or_right}
+use Rattle.std.proofs.lemmas.Bool.{cases_Bool, cases_lt, lt-ltb, le-ltb, and_parts, or_cases, or_right}
+use Rattle.std.proofs.lemmas.Str.{IsUtf8-nil, IsUtf8-append, IsUtf8-encode}
 use Rattle.std.proofs.lemmas.Bool.Decides.{nat_tests}
-use Rattle.mysql.specs.Ranges.{between}
-use Rattle.numeric.specs.Utf8.{tail, one, two, three, four, utf8}
+use Rattle.numeric.specs.Utf8.{one, two, three, four, utf8}
 
 -- what an encoding is, by the size of the scalar value
 
@@ -27,12 +27,6 @@ encode_4 c l = let j : 128 ≤ c = omega arith in let k : 2048 ≤ c = omega ari
 
 -- the tests of the grammar, and what they tell
 
-is_tail : (b : ℕ) → 128 ≤ b → b ≤ 191 → tail b ≡ true
-is_tail b h k = grind (arith, nat_tests)
-
-tail_says : (b : ℕ) → tail b ≡ true → (128 ≤ b) × (b ≤ 191)
-tail_says b e = (grind (arith, nat_tests), grind (arith, nat_tests))
-
 is_two : (a b : ℕ) → 194 ≤ a → a ≤ 223 → 128 ≤ b → b ≤ 191 → two a b ≡ true
 is_two a b h k l m = grind (arith, nat_tests)
 
@@ -46,59 +40,28 @@ is_four : (a b c d : ℕ) → 240 ≤ a → a ≤ 244 → 128 ≤ b → b ≤ 19
     → 16 ≤ (a - 240) * 64 + (b - 128) → (a - 240) * 64 + (b - 128) < 272 → four a b c d ≡ true
 is_four a b c d h k l m n o p q s t = grind (arith, nat_tests)
 
-record Three (a b c : ℕ) : Type 0 where
-  a_low : 224 ≤ a
-  a_high : a ≤ 239
-  b_low : 128 ≤ b
-  b_high : b ≤ 191
-  c_low : 128 ≤ c
-  c_high : c ≤ 191
-  shortest : 32 ≤ (a - 224) * 64 + (b - 128)
-  no_surrogate : ((a - 224) * 64 + (b - 128) < 864) ⊎ (896 ≤ (a - 224) * 64 + (b - 128))
-
-three_says : (a b c : ℕ) → three a b c ≡ true → Three a b c
-three_says a b c e =
-    let p = and_parts ((eqb a 0xE0 && between 0xA0 0xBF b) || ((between 0xE1 0xEC a && tail b) || ((eqb a 0xED && between 0x80 0x9F b) || (between 0xEE 0xEF a && tail b)))) (tail c) e in
-    let t = tail_says c p.1 in
-    let k = p.0 in
-    ⊎_elim
-    (λ h. let x : a ≡ 224 = grind (arith, nat_tests) in let y : 160 ≤ b = grind (arith, nat_tests) in let z : b ≤ 191 = grind (arith, nat_tests) in
-    record { a_low = omega arith; a_high = omega arith; b_low = omega arith; b_high = omega arith; c_low = t.0; c_high = t.1; shortest = omega arith; no_surrogate = inl (omega arith) })
-    (λ g. ⊎_elim
-    (λ h. let x : 225 ≤ a = grind (arith, nat_tests) in let w : a ≤ 236 = grind (arith, nat_tests) in let y : 128 ≤ b = grind (arith, nat_tests) in let z : b ≤ 191 = grind (arith, nat_tests) in
-    record { a_low = omega arith; a_high = omega arith; b_low = omega arith; b_high = omega arith; c_low = t.0; c_high = t.1; shortest = omega arith; no_surrogate = inl (omega arith) })
-    (λ f. ⊎_elim
-    (λ h. let x : a ≡ 237 = grind (arith, nat_tests) in let y : 128 ≤ b = grind (arith, nat_tests) in let z : b ≤ 159 = grind (arith, nat_tests) in
-    record { a_low = omega arith; a_high = omega arith; b_low = omega arith; b_high = omega arith; c_low = t.0; c_high = t.1; shortest = omega arith; no_surrogate = inl (omega arith) })
-    (λ h. let x : 238 ≤ a = grind (arith, nat_tests) in let w : a ≤ 239 = grind (arith, nat_tests) in let y : 128 ≤ b = grind (arith, nat_tests) in let z : b ≤ 191 = grind (arith, nat_tests) in
-    record { a_low = omega arith; a_high = omega arith; b_low = omega arith; b_high = omega arith; c_low = t.0; c_high = t.1; shortest = omega arith; no_surrogate = inr (omega arith) })
-    (or_cases (eqb a 0xED && between 0x80 0x9F b) (between 0xEE 0xEF a && tail b) f))
-    (or_cases (between 0xE1 0xEC a && tail b) ((eqb a 0xED && between 0x80 0x9F b) || (between 0xEE 0xEF a && tail b)) g))
-    (or_cases (eqb a 0xE0 && between 0xA0 0xBF b) ((between 0xE1 0xEC a && tail b) || ((eqb a 0xED && between 0x80 0x9F b) || (between 0xEE 0xEF a && tail b))) k)
-
 -- a character and then UTF-8 is UTF-8
+
+or_true : (b : Bool) → (b || true) ≡ true
+or_true b = or_right b true refl
 
 pub add_1 : (a : ℕ) (r : List ℕ) → one a ≡ true → utf8 r ≡ true → utf8 (a ∷ r) ≡ true
 add_1 a [] h k = h
-add_1 a (b ∷ []) h k = or_left (one a && utf8 (b ∷ [])) (two a b) (and_from (one a) (utf8 (b ∷ [])) h k)
-add_1 a (b ∷ c ∷ []) h k = or_left (one a && utf8 (b ∷ c ∷ [])) _ (and_from (one a) (utf8 (b ∷ c ∷ [])) h k)
-add_1 a (b ∷ c ∷ d ∷ r) h k = or_left (one a && utf8 (b ∷ c ∷ d ∷ r)) _ (and_from (one a) (utf8 (b ∷ c ∷ d ∷ r)) h k)
+add_1 a (b ∷ []) h k = rw (h, k)
+add_1 a (b ∷ c ∷ []) h k = rw (h, k)
+add_1 a (b ∷ c ∷ d ∷ r) h k = rw (h, k)
 
 add_2 : (a b : ℕ) (r : List ℕ) → two a b ≡ true → utf8 r ≡ true → utf8 (a ∷ b ∷ r) ≡ true
-add_2 a b [] h k = or_right (one a && utf8 (b ∷ [])) (two a b) h
-add_2 a b (c ∷ []) h k = or_right (one a && utf8 (b ∷ c ∷ [])) _ (or_left (two a b && utf8 (c ∷ [])) (three a b c) (and_from (two a b) (utf8 (c ∷ [])) h k))
-add_2 a b (c ∷ d ∷ r) h k = or_right (one a && utf8 (b ∷ c ∷ d ∷ r)) _ (or_left (two a b && utf8 (c ∷ d ∷ r)) _ (and_from (two a b) (utf8 (c ∷ d ∷ r)) h k))
+add_2 a b [] h k = simp (h, or_true)
+add_2 a b (c ∷ []) h k = simp (h, k, or_true)
+add_2 a b (c ∷ d ∷ r) h k = simp (h, k, or_true)
 
 add_3 : (a b c : ℕ) (r : List ℕ) → three a b c ≡ true → utf8 r ≡ true → utf8 (a ∷ b ∷ c ∷ r) ≡ true
-add_3 a b c [] h k = or_right (one a && utf8 (b ∷ c ∷ [])) _ (or_right (two a b && utf8 (c ∷ [])) (three a b c) h)
-add_3 a b c (d ∷ r) h k =
-    or_right (one a && utf8 (b ∷ c ∷ d ∷ r)) _ (or_right (two a b && utf8 (c ∷ d ∷ r)) _
-    (or_left (three a b c && utf8 (d ∷ r)) (four a b c d && utf8 r) (and_from (three a b c) (utf8 (d ∷ r)) h k)))
+add_3 a b c [] h k = simp (h, or_true)
+add_3 a b c (d ∷ r) h k = simp (h, k, or_true)
 
 add_4 : (a b c d : ℕ) (r : List ℕ) → four a b c d ≡ true → utf8 r ≡ true → utf8 (a ∷ b ∷ c ∷ d ∷ r) ≡ true
-add_4 a b c d r h k =
-    or_right (one a && utf8 (b ∷ c ∷ d ∷ r)) _ (or_right (two a b && utf8 (c ∷ d ∷ r)) _
-    (or_right (three a b c && utf8 (d ∷ r)) (four a b c d && utf8 r) (and_from (four a b c d) (utf8 r) h k)))
+add_4 a b c d r h k = simp (h, k, or_true)
 
 pub is_one : (a : ℕ) → a < 128 → one a ≡ true
 is_one a h = grind (arith, nat_tests)
@@ -140,15 +103,13 @@ scalar_low c h = rw (lt-ltb c 55296 h)
 scalar_high : (c : ℕ) → 57344 ≤ c → c < 1114112 → scalar c ≡ true
 scalar_high c h k = grind (arith, nat_tests)
 
-record Character (s : List ℕ) : Type 0 where
-  value : ℕ
-  is_scalar : scalar value ≡ true
-  is : encode value ≡ s
+character : (v : ℕ) (s : List ℕ) → scalar v ≡ true → encode v ≡ s → IsUtf8 s
+character v s h e = subst IsUtf8 e (IsUtf8-encode v h)
 
-character_1 : (a : ℕ) → one a ≡ true → Character (a ∷ [])
-character_1 a e = let h : a < 128 = grind (arith, nat_tests) in record { value = a; is_scalar = scalar_low a (omega arith); is = encode_1 a h }
+character_1 : (a : ℕ) → one a ≡ true → IsUtf8 (a ∷ [])
+character_1 a e = let h : a < 128 = grind (arith, nat_tests) in character a _ (scalar_low a (omega arith)) (encode_1 a h)
 
-character_2 : (a b : ℕ) → two a b ≡ true → Character (a ∷ b ∷ [])
+character_2 : (a b : ℕ) → two a b ≡ true → IsUtf8 (a ∷ b ∷ [])
 character_2 a b e =
     let p : 194 ≤ a = grind (arith, nat_tests) in
     let q : a ≤ 223 = grind (arith, nat_tests) in
@@ -157,27 +118,27 @@ character_2 a b e =
     let c : ℕ = (a - 192) * 64 + (b - 128) in
     let x : 192 + c / 64 ≡ a = omega arith in
     let y : next c ≡ b = omega arith in
-    record { value = c; is_scalar = scalar_low c (omega arith); is = encode_2 c (omega arith) (omega arith) ∙ cc }
+    character c _ (scalar_low c (omega arith)) (encode_2 c (omega arith) (omega arith) ∙ cc)
 
-scalar_3 : (a b c : ℕ) → Three a b c → ((a - 224) * 64 + (b - 128) < 864) ⊎ (896 ≤ (a - 224) * 64 + (b - 128)) → scalar ((a - 224) * 4096 + (b - 128) * 64 + (c - 128)) ≡ true
-scalar_3 a b c t (inl h) = scalar_low ((a - 224) * 4096 + (b - 128) * 64 + (c - 128)) (omega arith)
-scalar_3 a b c t (inr h) = scalar_high ((a - 224) * 4096 + (b - 128) * 64 + (c - 128)) (omega arith) (omega arith)
+scalar_3 : (a b c : ℕ) → three a b c ≡ true → scalar ((a - 224) * 4096 + (b - 128) * 64 + (c - 128)) ≡ true
+scalar_3 a b c e = grind (arith, nat_tests)
 
-character_3 : (a b c : ℕ) → three a b c ≡ true → Character (a ∷ b ∷ c ∷ [])
+character_3 : (a b c : ℕ) → three a b c ≡ true → IsUtf8 (a ∷ b ∷ c ∷ [])
 character_3 a b c e =
-    let t = three_says a b c e in
-    let al : 224 ≤ a = t.a_low in
-    let bl : 128 ≤ b = t.b_low in
-    let bh : b ≤ 191 = t.b_high in
-    let cl : 128 ≤ c = t.c_low in
-    let ch : c ≤ 191 = t.c_high in
+    let al : 224 ≤ a = grind (arith, nat_tests) in
+    let ah : a ≤ 239 = grind (arith, nat_tests) in
+    let bl : 128 ≤ b = grind (arith, nat_tests) in
+    let bh : b ≤ 191 = grind (arith, nat_tests) in
+    let cl : 128 ≤ c = grind (arith, nat_tests) in
+    let ch : c ≤ 191 = grind (arith, nat_tests) in
+    let shortest : 32 ≤ (a - 224) * 64 + (b - 128) = grind (arith, nat_tests) in
     let v : ℕ = (a - 224) * 4096 + (b - 128) * 64 + (c - 128) in
-    let l : 2048 ≤ v = omega (arith, t.shortest) in
-    let h : v < 65536 = omega (arith, t.a_high) in
+    let l : 2048 ≤ v = omega arith in
+    let h : v < 65536 = omega arith in
     let x : 224 + v / 4096 ≡ a = omega arith in
     let y : next (v / 64) ≡ b = omega arith in
     let z : next v ≡ c = omega arith in
-    record { value = v; is_scalar = scalar_3 a b c t t.no_surrogate; is = encode_3 v l h ∙ cc }
+    character v _ (scalar_3 a b c e) (encode_3 v l h ∙ cc)
 
 low_4 : (a b c d : ℕ) → 16 ≤ (a - 240) * 64 + (b - 128) → 65536 ≤ (a - 240) * 262144 + (b - 128) * 4096 + (c - 128) * 64 + (d - 128)
 low_4 a b c d h = omega arith
@@ -188,7 +149,7 @@ high_4 a b c d h k l = omega arith
 above_57344 : (v : ℕ) → 65536 ≤ v → 57344 ≤ v
 above_57344 v h = omega arith
 
-character_4 : (a b c d : ℕ) → four a b c d ≡ true → Character (a ∷ b ∷ c ∷ d ∷ [])
+character_4 : (a b c d : ℕ) → four a b c d ≡ true → IsUtf8 (a ∷ b ∷ c ∷ d ∷ [])
 character_4 a b c d e =
     let p : 240 ≤ a = grind (arith, nat_tests) in
     let q : a ≤ 244 = grind (arith, nat_tests) in
@@ -207,7 +168,7 @@ character_4 a b c d e =
     let x : next (v / 4096) ≡ b = rw j (omega arith) in
     let y : next (v / 64) ≡ c = rw i (omega arith) in
     let z : next v ≡ d = omega arith in
-    record { value = v; is_scalar = scalar_high v (above_57344 v (low_4 a b c d low)) (high_4 a b c d high ch dh); is = encode_4 v (low_4 a b c d low) ∙ cc }
+    character v _ (scalar_high v (above_57344 v (low_4 a b c d low)) (high_4 a b c d high ch dh)) (encode_4 v (low_4 a b c d low) ∙ cc)
 
 -- the two are the same
 
@@ -218,33 +179,33 @@ to_grammar (c ∷ cs) e = let p = and_parts (scalar c) (scalars cs) e in starts 
 pub in_grammar : (bs : List ℕ) → IsUtf8 bs → utf8 bs ≡ true
 in_grammar bs u = subst (λ (t : List ℕ). utf8 t ≡ true) u.1.1 (to_grammar u.0 u.1.0)
 
-more : (s r : List ℕ) → Character s → IsUtf8 r → IsUtf8 (s ++ r)
-more s r c u = (c.value ∷ u.0, (and_from (scalar c.value) (scalars u.0) c.is_scalar u.1.0, ap (λ t. t ++ encodes u.0) c.is ∙ ap (λ t. s ++ t) u.1.1))
-
 pub from_grammar : (bs : List ℕ) → utf8 bs ≡ true → IsUtf8 bs
-from_grammar [] e = ([], (refl, refl))
-from_grammar (a ∷ []) e = more (a ∷ []) [] (character_1 a e) (from_grammar [] refl)
+from_grammar [] e = IsUtf8-nil
+from_grammar (a ∷ []) e = IsUtf8-append (a ∷ []) [] (character_1 a e) (from_grammar [] refl)
 from_grammar (a ∷ b ∷ []) e =
     ⊎_elim
-    (λ h. let p = and_parts (one a) (utf8 (b ∷ [])) h in more (a ∷ []) (b ∷ []) (character_1 a p.0) (from_grammar (b ∷ []) p.1))
-    (λ h. more (a ∷ b ∷ []) [] (character_2 a b h) (from_grammar [] refl))
+    (λ h. let p = and_parts (one a) (utf8 (b ∷ [])) h in IsUtf8-append (a ∷ []) (b ∷ []) (character_1 a p.0) (from_grammar (b ∷ []) p.1))
+    (λ h. IsUtf8-append (a ∷ b ∷ []) [] (character_2 a b h) (from_grammar [] refl))
     (or_cases (one a && utf8 (b ∷ [])) (two a b) e)
 from_grammar (a ∷ b ∷ c ∷ []) e =
     ⊎_elim
-    (λ h. let p = and_parts (one a) (utf8 (b ∷ c ∷ [])) h in more (a ∷ []) (b ∷ c ∷ []) (character_1 a p.0) (from_grammar (b ∷ c ∷ []) p.1))
+    (λ h. let p = and_parts (one a) (utf8 (b ∷ c ∷ [])) h in IsUtf8-append (a ∷ []) (b ∷ c ∷ []) (character_1 a p.0) (from_grammar (b ∷ c ∷ []) p.1))
     (λ g. ⊎_elim
-    (λ h. let p = and_parts (two a b) (utf8 (c ∷ [])) h in more (a ∷ b ∷ []) (c ∷ []) (character_2 a b p.0) (from_grammar (c ∷ []) p.1))
-    (λ h. more (a ∷ b ∷ c ∷ []) [] (character_3 a b c h) (from_grammar [] refl))
+    (λ h. let p = and_parts (two a b) (utf8 (c ∷ [])) h in IsUtf8-append (a ∷ b ∷ []) (c ∷ []) (character_2 a b p.0) (from_grammar (c ∷ []) p.1))
+    (λ h. IsUtf8-append (a ∷ b ∷ c ∷ []) [] (character_3 a b c h) (from_grammar [] refl))
     (or_cases (two a b && utf8 (c ∷ [])) (three a b c) g))
     (or_cases (one a && utf8 (b ∷ c ∷ [])) ((two a b && utf8 (c ∷ [])) || three a b c) e)
 from_grammar (a ∷ b ∷ c ∷ d ∷ r) e =
     ⊎_elim
-    (λ h. let p = and_parts (one a) (utf8 (b ∷ c ∷ d ∷ r)) h in more (a ∷ []) (b ∷ c ∷ d ∷ r) (character_1 a p.0) (from_grammar (b ∷ c ∷ d ∷ r) p.1))
+    (λ h. let p = and_parts (one a) (utf8 (b ∷ c ∷ d ∷ r)) h in IsUtf8-append (a ∷ []) (b ∷ c ∷ d ∷ r) (character_1 a p.0) (from_grammar (b ∷ c ∷ d ∷ r) p.1))
     (λ g. ⊎_elim
-    (λ h. let p = and_parts (two a b) (utf8 (c ∷ d ∷ r)) h in more (a ∷ b ∷ []) (c ∷ d ∷ r) (character_2 a b p.0) (from_grammar (c ∷ d ∷ r) p.1))
+    (λ h. let p = and_parts (two a b) (utf8 (c ∷ d ∷ r)) h in IsUtf8-append (a ∷ b ∷ []) (c ∷ d ∷ r) (character_2 a b p.0) (from_grammar (c ∷ d ∷ r) p.1))
     (λ f. ⊎_elim
-    (λ h. let p = and_parts (three a b c) (utf8 (d ∷ r)) h in more (a ∷ b ∷ c ∷ []) (d ∷ r) (character_3 a b c p.0) (from_grammar (d ∷ r) p.1))
-    (λ h. let p = and_parts (four a b c d) (utf8 r) h in more (a ∷ b ∷ c ∷ d ∷ []) r (character_4 a b c d p.0) (from_grammar r p.1))
+    (λ h. let p = and_parts (three a b c) (utf8 (d ∷ r)) h in IsUtf8-append (a ∷ b ∷ c ∷ []) (d ∷ r) (character_3 a b c p.0) (from_grammar (d ∷ r) p.1))
+    (λ h. let p = and_parts (four a b c d) (utf8 r) h in IsUtf8-append (a ∷ b ∷ c ∷ d ∷ []) r (character_4 a b c d p.0) (from_grammar r p.1))
     (or_cases (three a b c && utf8 (d ∷ r)) (four a b c d && utf8 r) f))
     (or_cases (two a b && utf8 (c ∷ d ∷ r)) ((three a b c && utf8 (d ∷ r)) || (four a b c d && utf8 r)) g))
     (or_cases (one a && utf8 (b ∷ c ∷ d ∷ r)) ((two a b && utf8 (c ∷ d ∷ r)) || ((three a b c && utf8 (d ∷ r)) || (four a b c d && utf8 r))) e)
+
+pub not_in_grammar : (bs : List ℕ) → (IsUtf8 bs → ⊥) → utf8 bs ≡ false
+not_in_grammar bs n = ⊎_elim (λ e. absurd (n (from_grammar bs e))) (λ e. e) (cases_Bool (utf8 bs))

@@ -32,11 +32,7 @@ impl Target for i32 {
     }
 
     fn narrow(x: i64) -> Result<i32, Fault> {
-        if x >= i64::from(i32::MIN) && x <= i64::from(i32::MAX) {
-            Ok(x as i32)
-        } else {
-            Err(Fault::new(Refusal::OutOfRange))
-        }
+        i32::try_from(x).map_err(|_| Fault::new(Refusal::OutOfRange))
     }
 }
 

@@ -1,8 +1,8 @@
--- What the two tests of a float against the ends -2^63 and 2^63 tell of it, in both formats.
+-- What the two tests of a float against the ends -2^63 and 2^63 tell of it.
 -- Assumes nothing.
-use Rattle.std.proofs.Common.{◌≡◌, ℕ, suc, ◌+◌, ◌*◌, ◌/◌, ◌^◌, ◌<◌, ◌≤◌, Bool, true, false, ◌&&◌, ◌||◌, eqb, ltb, leb, ℤ, pos, negsuc, Ok, Err, Result, sym, refl, ◌∙◌, true≢false, mul_comm, mul-one, arith, lit<, pow_pos}
+use Rattle.std.proofs.Common.{◌≡◌, ℕ, suc, ◌*◌, ◌/◌, ◌^◌, ◌<◌, ◌≤◌, true, false, leb, ℤ, pos, negsuc, Ok, Err, Result, sym, refl, ◌∙◌, true≢false, mul_comm, mul-one, arith, lit<, pow_pos}
 use native.Mathlib.Nat.{min-eq_left, div-le_of_le-mul}
-use lib.Ieee.{Float, nan, inf, fin, up, down, le, lt, eq, to_signed, of_bits, of_fields, odd, binary32, binary64}
+use lib.Ieee.{Float, nan, inf, fin, up, down, le, lt, eq, to_signed, of_bits, of_fields, odd, binary64}
 use lib.Count.{count_trailing_zeros}
 use Rattle.std.proofs.lemmas.Bool.{leb-true}
 use Rattle.std.proofs.lemmas.Bool.Decides.{nat_tests}
@@ -17,7 +17,7 @@ high = fin false 1 (pos 63)
 abbrev pub low : Float
 low = fin true 1 (pos 63)
 
--- the two constants of each format are the ends
+-- the two constants are the ends
 pub high64 : of_bits binary64 4890909195324358656 ≡ high
 unfolding of_bits of_fields odd count_trailing_zeros
 high64 = refl
@@ -26,45 +26,25 @@ pub low64 : of_bits binary64 14114281232179134464 ≡ low
 unfolding of_bits of_fields odd count_trailing_zeros
 low64 = refl
 
-pub high32 : of_bits binary32 1593835520 ≡ high
-unfolding of_bits of_fields odd count_trailing_zeros
-high32 = refl
-
-pub low32 : of_bits binary32 3741319168 ≡ low
-unfolding of_bits of_fields odd count_trailing_zeros
-low32 = refl
-
 pub down_pos : (e : ℤ) → 0 < down e
 down_pos (pos k) = lit< tt
 down_pos (negsuc k) = pow_pos (suc k)
 
-at_most : (a b : ℕ) → (ltb a b || (eqb a b && true)) ≡ leb a b
-at_most a b = grind (arith, nat_tests)
-
-at_most' : (a b : ℕ) → (ltb a b || (eqb b a && true)) ≡ leb a b
-at_most' a b = grind (arith, nat_tests)
-
-some_right : (a b : ℕ) (t : Bool) → 0 < b → (ltb 0 (a + b) || t) ≡ true
-some_right a b t h = grind (arith, nat_tests)
-
-some_left : (a b : ℕ) (t : Bool) → 0 < a → (ltb 0 (a + b) || t) ≡ true
-some_left a b t h = grind (arith, nat_tests)
-
 below_high : (m : ℕ) (e : ℤ) → le (fin false m e) high ≡ leb (m * up e) (2 ^ 63 * down e)
 unfolding le lt eq
-below_high m e = rw mul-one (at_most (m * up e) (2 ^ 63 * down e))
+below_high m e = rw mul-one (grind (arith, nat_tests))
 
 above_low : (m : ℕ) (e : ℤ) → le low (fin true m e) ≡ leb (m * up e) (2 ^ 63 * down e)
 unfolding le lt eq
-above_low m e = rw mul-one (at_most' (m * up e) (2 ^ 63 * down e))
+above_low m e = rw mul-one (grind (arith, nat_tests))
 
 negative_below : (m : ℕ) (e : ℤ) → le (fin true m e) high ≡ true
 unfolding le lt eq
-negative_below m e = let p : 0 < down e = down_pos e in some_right (m * up e * 1) (2 ^ 63 * down e) _ (omega arith)
+negative_below m e = let p : 0 < down e = down_pos e in grind (arith, nat_tests)
 
 positive_above : (m : ℕ) (e : ℤ) → le low (fin false m e) ≡ true
 unfolding le lt eq
-positive_above m e = let p : 0 < down e = down_pos e in some_left (2 ^ 63 * down e) (m * up e * 1) _ (omega arith)
+positive_above m e = let p : 0 < down e = down_pos e in grind (arith, nat_tests)
 
 -- the quotient is no more than 2^63
 cut : (a d : ℕ) → leb a (2 ^ 63 * d) ≡ true → a / d ≤ 2 ^ 63

@@ -57,6 +57,3 @@ integer_is half tpe.Enum raw = refl
 
 pub formed : (half : ℕ) (t : MysqlType) (raw : Bor (List ℕ)) (n m : NumericRepresentation) → Ok n ≡ representation t raw → n ≡ m → by_form half m ≡ integer half t raw.now
 formed half t raw n m e i = ap (by_form half) (sym i) ∙ ap (λ r. next r (by_form half)) e ∙ sym (integer_is half t raw)
-
-pub unformed : (half : ℕ) (t : MysqlType) (raw : Bor (List ℕ)) (f : Fault) → Err f ≡ representation t raw → Err f ≡ integer half t raw.now
-unformed half t raw f e = ap (λ r. next r (by_form half)) e ∙ sym (integer_is half t raw)

@@ -1,15 +1,14 @@
 -- A float's bit pattern stands for the number that its fields say: the library's decoding, which writes each number in lowest terms,
 -- and the fields of IEEE 754 agree once the fraction is dropped.
 -- Assumes nothing.
-use Rattle.std.proofs.Common.{◌≡◌, ℕ, zero, suc, ◌+◌, ◌-◌, ◌*◌, ◌/◌, ◌%◌, ◌^◌, ◌<◌, ◌≤◌, Bool, true, false, cond, eqb, leb, Ok, Err, sym, refl, ap, ◌∙◌, subst, ⊎_elim, mul-le-mul_right, mul_assoc, mul_comm, mul-one, le_of_mul-le-mul_right, arith, pow_pos}
+use Rattle.std.proofs.Common.{◌≡◌, ℕ, zero, suc, ◌+◌, ◌-◌, ◌*◌, ◌/◌, ◌%◌, ◌^◌, ◌<◌, ◌≤◌, Bool, true, false, cond, eqb, leb, sym, refl, ap, ◌∙◌, subst, mul-le-mul_right, mul_assoc, mul_comm, mul-one, le_of_mul-le-mul_right, arith, pow_pos}
 use native.Mathlib.Nat.{mul-div-mul_right}
 use lib.Ieee.{Float, nan, inf, fin, binary32, binary64, low, up, down, odd, of_fields, of_bits}
 use lib.Ieee.Exact.{HasValue, odd_sign}
-use Rattle.std.proofs.lemmas.Bool.{leb-true, le-leb, cases_Bool, both_ways, ne_eqb}
-use Rattle.mysql.specs.Faults.{refused}
-use Rattle.mysql.specs.declared.fault.Refusal.TheVariants.{OutOfRange}
+use Rattle.std.proofs.lemmas.Bool.Decides.{nat_tests}
+use Rattle.std.proofs.lemmas.Bool.{ne_eqb}
 use Rattle.readings.proofs.Ends.{down_pos}
-use Rattle.readings.specs.Floats.{not_a_number, infinite, finite, real, by_fields, single, double, signed, truncated}
+use Rattle.readings.specs.Floats.{not_a_number, infinite, finite, real, by_fields, single, double, truncated}
 
 -- two fractions of one size have one whole part, and pass or fail a limit together
 module _ (p d a c : ℕ) (hd : 0 < d) (hc : 0 < c) (same : p * c ≡ a * d) where
@@ -25,21 +24,14 @@ module _ (p d a c : ℕ) (hd : 0 < d) (hc : 0 < c) (same : p * c ≡ a * d) wher
 
 limits : (p d a c : ℕ) → 0 < d → 0 < c → p * c ≡ a * d → (k : ℕ) → leb p (k * d) ≡ leb a (k * c)
 limits p d a c hd hc same k =
-    ⊎_elim
-    (λ e. e ∙ sym (le-leb a (k * c) (over p d a c hd hc same k (leb-true p (k * d) e))))
-    (λ e. ⊎_elim
-    (λ f. absurd (both_ways (leb p (k * d)) e (le-leb p (k * d) (over a c p d hc hd (sym same) k (leb-true a (k * c) f)))))
-    (λ f. e ∙ sym f)
-    (cases_Bool (leb a (k * c))))
-    (cases_Bool (leb p (k * d)))
+    let f = over p d a c hd hc same k in
+    let g = over a c p d hc hd (sym same) k in
+    grind (arith, nat_tests)
 
 same_value : (x : Float) (s : Bool) (a c : ℕ) → 0 < c → HasValue x s a c → truncated (real x) ≡ truncated (finite s a c)
 same_value nan s a c h v = absurd v
 same_value (inf t) s a c h v = absurd v
-same_value (fin t m e) s a c h v =
-    ap (λ (b : Bool). cond b (Ok (signed t (m * up e / down e))) (Err (refused OutOfRange))) (limits (m * up e) (down e) a c (down_pos e) h v.1 (2 ^ 63))
-    ∙ ap (λ (q : ℕ). cond (leb a (2 ^ 63 * c)) (Ok (signed t q)) (Err (refused OutOfRange))) (quotient (m * up e) (down e) a c (down_pos e) h v.1)
-    ∙ ap (λ (b : Bool). cond (leb a (2 ^ 63 * c)) (Ok (signed b (a / c))) (Err (refused OutOfRange))) v.0
+same_value (fin t m e) s a c h v = rw (limits (m * up e) (down e) a c (down_pos e) h v.1 (2 ^ 63), quotient (m * up e) (down e) a c (down_pos e) h v.1, v.0)
 
 -- a full exponent field
 full : (s b : Bool) → truncated (real (cond b (inf s) nan)) ≡ truncated (cond b (infinite s) not_a_number)

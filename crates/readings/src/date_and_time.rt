@@ -2,10 +2,9 @@
 ghost use Rattle.std.specs.Prelude.{◌≡◌, ◌+◌, ◌≤◌, length, take, drop};
 ghost use Rattle.mysql.specs.Kept.{row_of};
 ghost use Rattle.mysql.specs.Ranges.{between};
-ghost use Rattle.readings.specs.Bytes.{le};
 ghost use Rattle.readings.specs.Times.{record_at, time};
 
-use crate::value::{FromNeBytes, MysqlValue};
+use crate::value::MysqlValue;
 use mysql::{Fault, MysqlType, Refusal};
 
 // The size of the record, and where its sign lies.
@@ -32,12 +31,12 @@ pub struct MysqlTime {
     pub time_zone_displacement: i32,
 }
 
-// The number that lies at an offset.
-fn number_at<T: FromNeBytes>(raw: &[u8], at: usize) -> T
-    requires { at + T.FromNeBytes.width ≤ length raw.now }
-    ensures { result ≡ T.FromNeBytes.value (le (take T.FromNeBytes.width (drop at raw.now))) }
+// The bytes that lie at an offset.
+fn bytes_at<const N: usize>(raw: &[u8], at: usize) -> &[u8; N]
+    requires { at + N ≤ length raw.now }
+    ensures { result.now ≡ take N (drop at raw.now) }
 {
-    T::from_ne_prefix(&raw[at..])
+    raw[at..].first_chunk().unwrap()
 }
 
 // Whether values of a type are times.
@@ -74,15 +73,15 @@ fn read_record(raw: &[u8]) -> MysqlTime
     ensures { result ≡ record_at raw.now }
 {
     MysqlTime {
-        year: number_at(raw, 0),
-        month: number_at(raw, 4),
-        day: number_at(raw, 8),
-        hour: number_at(raw, 12),
-        minute: number_at(raw, 16),
-        second: number_at(raw, 20),
-        second_part: number_at(raw, 24),
+        year: u32::from_ne_bytes(*bytes_at(raw, 0)),
+        month: u32::from_ne_bytes(*bytes_at(raw, 4)),
+        day: u32::from_ne_bytes(*bytes_at(raw, 8)),
+        hour: u32::from_ne_bytes(*bytes_at(raw, 12)),
+        minute: u32::from_ne_bytes(*bytes_at(raw, 16)),
+        second: u32::from_ne_bytes(*bytes_at(raw, 20)),
+        second_part: u64::from_ne_bytes(*bytes_at(raw, 24)),
         neg: false,
-        time_type: number_at(raw, 36),
-        time_zone_displacement: number_at(raw, 40),
+        time_type: i32::from_ne_bytes(*bytes_at(raw, 36)),
+        time_zone_displacement: i32::from_ne_bytes(*bytes_at(raw, 40)),
     }
 }

@@ -51,8 +51,5 @@ impl FromSql for MysqlTime {
 pub fn from_nullable_sql<T: FromSql>(value: Option<MysqlValue>) -> Result<T, Fault>
     ensures { result ≡ nullable T.FromSql.reads value.entry }
 {
-    match value {
-        Some(value) => T::from_sql(&value),
-        None => Err(Fault::new(Refusal::UnexpectedNull)),
-    }
+    T::from_sql(&value.ok_or(Fault::new(Refusal::UnexpectedNull))?)
 }

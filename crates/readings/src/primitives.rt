@@ -1,6 +1,6 @@
 // Values as integers.
 ghost use Rattle.std.specs.Prelude.{◌≡◌, pos};
-ghost use Rattle.mysql.specs.Answers.{through, next};
+ghost use Rattle.mysql.specs.Answers.{through};
 ghost use Rattle.numeric.specs.Targets.{in_range};
 ghost use Rattle.readings.specs.Integers.{integer};
 
@@ -13,23 +13,24 @@ use numeric::{Target, decimal_to_integer};
 pub fn integer_value<T: Target>(value: &MysqlValue) -> Result<T, Fault>
     ensures { through T.Target.whole result ≡ integer T.Target.half value.now.tpe value.now.raw.now }
 {
-    let number = value.numeric_value()?;
-    match number {
-        NumericRepresentation::Tiny(x) => T::narrow(i64::from(x)),
-        NumericRepresentation::UnsignedTiny(x) => T::narrow(i64::from(x)),
-        NumericRepresentation::Small(x) => T::narrow(i64::from(x)),
-        NumericRepresentation::UnsignedSmall(x) => T::narrow(i64::from(x)),
-        NumericRepresentation::Medium(x) => T::narrow(i64::from(x)),
-        NumericRepresentation::UnsignedMedium(x) => T::narrow(i64::from(x)),
-        NumericRepresentation::Big(x) => T::narrow(x),
-        NumericRepresentation::UnsignedBig(x) => unsigned_value(x),
-        NumericRepresentation::Float(x) => narrowed(f32_to_i64(x)),
-        NumericRepresentation::Double(x) => narrowed(f64_to_i64(x)),
-        NumericRepresentation::Decimal(text) => decimal_to_integer(text),
-    }
+    let whole = match value.numeric_value()? {
+        NumericRepresentation::Tiny(x) => i64::from(x),
+        NumericRepresentation::UnsignedTiny(x) => i64::from(x),
+        NumericRepresentation::Small(x) => i64::from(x),
+        NumericRepresentation::UnsignedSmall(x) => i64::from(x),
+        NumericRepresentation::Medium(x) => i64::from(x),
+        NumericRepresentation::UnsignedMedium(x) => i64::from(x),
+        NumericRepresentation::Big(x) => x,
+        NumericRepresentation::UnsignedBig(x) => return unsigned_value(x),
+        NumericRepresentation::Float(x) => f32_to_i64(x)?,
+        NumericRepresentation::Double(x) => f64_to_i64(x)?,
+        NumericRepresentation::Decimal(text) => return decimal_to_integer(text),
+    };
+    T::narrow(whole)
 }
 
-// The same of a number without a sign, which may lie above every i64.
+// The same of a number without a sign, which may lie above every i64. (No `i64::try_from`: that no target holds more than an i64
+// is known from `half_range` alone.)
 fn unsigned_value<T: Target>(x: u64) -> Result<T, Fault>
     ensures { through T.Target.whole result ≡ in_range T.Target.half (pos x) }
 {
@@ -37,14 +38,4 @@ fn unsigned_value<T: Target>(x: u64) -> Result<T, Fault>
         return Err(Fault::new(Refusal::OutOfRange));
     }
     T::narrow(x as i64)
-}
-
-// The same of a number that may have been out of range before.
-fn narrowed<T: Target>(x: Result<i64, Fault>) -> Result<T, Fault>
-    ensures { through T.Target.whole result ≡ next x (in_range T.Target.half) }
-{
-    match x {
-        Ok(x) => T::narrow(x),
-        Err(fault) => Err(fault),
-    }
 }
