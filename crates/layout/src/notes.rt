@@ -1,6 +1,6 @@
 // What was reported of the columns, noted in the table, and what is asked of it.
-ghost use Rattle.std.specs.Prelude.{◌≡◌, ◌<◌, ◌≤◌, true, false, length, IfSome, MatchOption};
-ghost use Rattle.layout.specs.Tables.{count_of, NotedAt, Noted, SamePlaces, AllFit, NoneLost, LowestLost, binds, end as end_of};
+ghost use Rattle.std.specs.Prelude.{◌≡◌, ◌<◌, ◌≤◌, true, false, length, MatchOption};
+ghost use Rattle.layout.specs.Tables.{count_of, col, NotedAt, Noted, SamePlaces, AllFit, NoneLost, LowestLost, binds, end as end_of};
 
 use crate::record::ColumnRecord;
 use crate::table::ColumnTable;
@@ -8,6 +8,21 @@ use arrayvec::ArrayVec;
 use host::{BindRecord, Report};
 
 impl ColumnTable {
+    // How many columns there are.
+    pub fn count(&self) -> usize
+        ensures value { result ≡ count_of self.now }
+        ensures few { result ≤ 64 }
+    {
+        self.columns.len()
+    }
+
+    // Column `i`, if there is one.
+    pub fn column(&self, i: usize) -> Option<ColumnRecord>
+        ensures { MatchOption result (count_of self.now ≤ i) (λ c. (i < count_of self.now) × (c ≡ col self.now i)) }
+    {
+        self.columns.get(i).copied()
+    }
+
     // Notes what was reported of column `i`, if there is one.
     pub fn note(&mut self, i: usize, report: Report)
         ensures noted { NotedAt i self.old report self.new }
@@ -30,8 +45,7 @@ impl ColumnTable {
 
     // The lowest column of a fixed size that is marked truncated.
     pub fn lost(&self) -> Option<usize>
-        ensures lowest { MatchOption result (NoneLost self.now) (LowestLost self.now) }
-        ensures few { IfSome result (λ i. i < 64) }
+        ensures { MatchOption result (NoneLost self.now) (LowestLost self.now) }
     {
         self.columns.iter().position(ColumnRecord::is_lost)
     }

@@ -1,5 +1,5 @@
 // The table of a session's columns.
-ghost use Rattle.std.specs.Prelude.{◌≤◌};
+ghost use Rattle.std.specs.Prelude.{◌≤◌, length};
 ghost use Rattle.layout.specs.Columns.{total, Lies, SomeRoom, Sized};
 
 use crate::record::ColumnRecord;
@@ -11,6 +11,7 @@ use arrayvec::ArrayVec;
 pub struct ColumnTable {
     pub columns: ArrayVec<ColumnRecord, 64>,
     pub room: usize,
+    ghost few: { length columns.items ≤ 64 },
     ghost laid: { Lies columns.items },
     ghost within: { total columns.items ≤ room },
     ghost roomy: { SomeRoom columns.items },

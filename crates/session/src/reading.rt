@@ -44,7 +44,7 @@ impl<H: Host> Session<H> {
         ensures { shown_by result ≡ reading self.now arena.now column }
     {
         self.check(arena.len())?;
-        if column >= self.table.count {
+        if column >= self.table.columns.len() {
             return Err(Fault::new(Refusal::NoSuchColumn));
         }
         if !self.shown {

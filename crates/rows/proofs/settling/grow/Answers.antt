@@ -1,8 +1,7 @@
-use Rattle.std.proofs.Common.{◌≡◌, Bool, length, subst, arith, rules}
+use Rattle.std.proofs.Common.{◌≡◌, Bool, length, ◌∙◌, subst, arith, rules}
 use Rattle.layout.specs.Tables.{count_of, binds}
 use Rattle.rows.specs.Settling.{WholeAs, Whole}
 use Rattle.rows.proofs.Pairs.{not_both}
-use Rattle.rows.proofs.Pairs.{front_is}
 use Rattle.rows.proofs.Grows.{half, all_fit, is_granted, grew}
 use Rattle.rows.proofs.settling.grow.Goals as goal
 use Rattle.rows.proofs.settling.grow.Goals.{then-not-fetch_missing-via-then-not-fetch_missing, then-not-fetch_missing-via-else-not-fetch_missing+then-not-fits}
@@ -42,7 +41,7 @@ returns-then-not-bind g c = record {
       let w = c.if-not-fetch_missing.ensures.came row (half m row old a in_row none new b moved) in
       not_both c.bind.result
       (is_granted m row old a in_row none new b moved (g.H.Host.meaning c.fetch_missing.new.host) t c.fetch_missing.new.arena c.fetch_missing.ensures.places w
-      (g.H.Host.meaning c.bind.new.self) _ c.bind.result (front_is (count_of t) c.bind_records-records.result (binds t) c.bind_records-records.ensures) c.bind.ensures.granted c.bind.ensures.after)
+      (g.H.Host.meaning c.bind.new.self) _ c.bind.result (c.as_slice.ensures.value ∙ c.bind_records.ensures) c.bind.ensures.granted c.bind.ensures.after)
       c.if-not-bind.true;
 }
 
@@ -57,5 +56,5 @@ returns g c = record {
       let t = c.fetch_missing.new.new in
       let w = c.if-not-fetch_missing.ensures.came row (half m row old a in_row none new b moved) in
       grew m row old a in_row none new b moved (g.H.Host.meaning c.fetch_missing.new.host) t c.fetch_missing.new.arena c.fetch_missing.ensures.places w
-      (g.H.Host.meaning c.bind.new.self) _ c.bind.result (front_is (count_of t) c.bind_records-records.result (binds t) c.bind_records-records.ensures) c.bind.ensures.granted c.bind.ensures.after;
+      (g.H.Host.meaning c.bind.new.self) _ c.bind.result (c.as_slice.ensures.value ∙ c.bind_records.ensures) c.bind.ensures.granted c.bind.ensures.after;
 }

@@ -16,6 +16,7 @@ invariant_of-self c =
     let was : c.in-Some.column.now ≡ get_or cs c.args.i no_record = search rules in
     let same = same_binds cs c.args.i c.args.report c.in-Some.column.now c.note.new.self was c.note.ensures in
     record {
+      few = omega (arith, t.few, same_count cs _ same);
       laid = same_lies cs _ same t.laid;
       within = omega (arith, t.within, same_total cs _ same);
       roomy = same_room cs _ same t.roomy;

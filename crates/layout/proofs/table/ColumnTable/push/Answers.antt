@@ -13,6 +13,7 @@ invariant_of-self c =
     let e : c.push.new.self.items ≡ cs ++ x ∷ [] = c.push.ensures.items in
     let w = t.within in
     record {
+      few = omega (arith, c.push.ensures.len, c.requires.few);
       laid = subst Lies (sym e) (lies_push cs x c.end-start.ensures t.laid);
       within = subst (λ z. total z ≤ t.room) (sym e) (omega (arith, sum_by_push capacity cs x, c.end-start.ensures, c.if-column-self.false));
       roomy = subst SomeRoom (sym e) (roomy_push cs x c.requires.some t.roomy);
