@@ -54,19 +54,15 @@ impl<H: Host> Session<H> {
     pub fn column_count(&self) -> usize
         ensures { result ≡ (if self.now.opened then count_of self.now.table else 0) }
     {
-        if self.opened {
-            self.table.columns.len()
-        } else {
-            0
-        }
+        if self.opened { self.table.count() } else { 0 }
     }
 
     // What is known of a bound column.
     pub fn column(&self, i: usize) -> Option<ColumnRecord>
         ensures { MatchOption result (self.now.opened ≡ true → count_of self.now.table ≤ i) (λ c. (self.now.opened ≡ true) × (i < count_of self.now.table) × (c ≡ col self.now.table i)) }
     {
-        if self.opened && i < self.table.columns.len() {
-            Some(self.table.columns[i])
+        if self.opened {
+            self.table.column(i)
         } else {
             None
         }

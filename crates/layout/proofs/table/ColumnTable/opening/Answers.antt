@@ -16,7 +16,7 @@ loop-column-preserved c =
     let d = c.default.ensures.1.1.1.1 in
     let p : Column = get_or pairs i no_pair in
     let is : record { code = p.code; flags = p.flags; start = end t; capacity = c.least_capacity.result; length = c.default.result.length; is_null = c.default.result.is_null; is_truncated = c.default.result.is_truncated } ≡ first_record p (end t)
-        = λ j. record { code = p.code; flags = p.flags; start = end t; capacity = c.least_capacity.ensures j; length = d.0 j; is_null = d.1.0 j; is_truncated = d.1.1 j } in
+    = λ j. record { code = p.code; flags = p.flags; start = end t; capacity = c.least_capacity.ensures j; length = d.0 j; is_null = d.1.0 j; is_truncated = d.1.1 j } in
     record {
       room = a.room ∙ inv.room;
       as_many = omega (arith, added_count _ t v a, inv.as_many);

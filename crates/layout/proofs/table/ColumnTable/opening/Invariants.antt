@@ -8,5 +8,5 @@ invariant-loop-column l = record {
   room : l.table.room ≡ l.room;
   as_many : count_of l.table ≡ l.column-index;
   ends : end l.table ≡ opening_size (take l.column-index l.columns);
-  each : (k : ℕ) → k < l.column-index → col l.table k ≡ first_record (get_or l.columns k no_pair) (start l.table k)
+  each : (k : ℕ) → k < l.column-index → col l.table k ≡ first_record (get_or l.columns k no_pair) (start l.table k);
 }

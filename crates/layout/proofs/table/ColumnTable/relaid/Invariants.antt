@@ -12,5 +12,5 @@ invariant-loop-column g l = record {
   as_many : count_of l.table ≡ l.column-index;
   laid : (tight : Bool) → ((c : ColumnRecord) (n : ℕ) → FnReturnsAt g.F.Fn l.capacity c n → n ≡ wanted tight c)
       → (end l.table ≡ sum tight (take l.column-index l.self.columns.items))
-      × ((k : ℕ) → k < l.column-index → col l.table k ≡ moved (col l.self k) (start l.table k) (wanted tight (col l.self k)))
+      × ((k : ℕ) → k < l.column-index → col l.table k ≡ moved (col l.self k) (start l.table k) (wanted tight (col l.self k)));
 }
