@@ -5,7 +5,7 @@ mod count;
 
 use anyhow::anyhow;
 use count::{count_tape, count_tray};
-use recording::Recording;
+use tape::Recording;
 use std::process::ExitCode;
 use std::{env, fs};
 use words::InWords;

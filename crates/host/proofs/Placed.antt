@@ -1,6 +1,6 @@
 -- A field that was written to a part of the arena, and the arena with that part in it.
 -- Assumes nothing.
-use Rattle.std.proofs.Common.{◌≡◌, ℕ, ◌+◌, ◌<◌, ◌≤◌, Bool, true, false, ◌||◌, List, length, get_or, sym, refl, ap, ◌∙◌, arith, rules}
+use Rattle.std.proofs.Common.{◌≡◌, ℕ, ◌+◌, ◌<◌, ◌≤◌, List, length, get_or, sym, ap, ◌∙◌, arith, rules}
 use borrow.Rule.Slice.PartMut.{put_mid}
 use Rattle.std.proofs.lemmas.List.{places}
 use Rattle.host.specs.declared.records.Report.{Report}
@@ -33,7 +33,3 @@ pub whole_stands : (f : Field) (start n : ℕ) (part arena : List ℕ) → ((j :
 whole_stands null start n part arena p s = tt
 whole_stands (held lost bs) start n part arena p s =
     λ j l. p j (omega arith) ∙ (let z : j ≡ 0 + j = omega arith in ap (λ i. get_or part i 0) z) ∙ s j l
-
-pub or_false : (b : Bool) → (b || false) ≡ b
-or_false true = refl
-or_false false = refl

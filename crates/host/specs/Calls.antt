@@ -4,6 +4,8 @@ use Rattle.host.specs.declared.records.BindRecord.{BindRecord}
 use Rattle.host.specs.declared.records.Report.{Report}
 use Rattle.host.specs.declared.records.Fetched.{Fetched}
 use Rattle.host.specs.declared.records.Fetched.TheVariants as answer
+use Rattle.host.specs.declared.records.ClientError.{ClientError}
+use Rattle.host.specs.declared.records.ClientError.TheVariants as why
 use Rattle.host.specs.Fields.{Field, null, held}
 use Rattle.host.specs.Meanings.{Row, Event, row, failure, Meaning}
 
@@ -16,6 +18,11 @@ unsupported_type = 2036
 
 abbrev pub no_data : ℕ
 no_data = 2051
+
+abbrev pub number_of : ClientError → ℕ
+number_of why.InvalidParameter = invalid_parameter
+number_of why.UnsupportedType = unsupported_type
+number_of why.NoData = no_data
 
 -- the same meaning but for the error number
 abbrev pub with_error : ℕ → Meaning → Meaning

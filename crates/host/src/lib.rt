@@ -5,14 +5,17 @@ ghost use Rattle.std.specs.Prelude.{◌≡◌, true, false, length, ◌==◌, sl
 ghost use Rattle.host.specs.Meanings.{Meaning, Formed, no_column};
 ghost use Rattle.host.specs.Calls.{bind_error, after_bind, allows, Fetches, Parts, freed};
 
+mod binding;
 mod records;
 mod whole;
 
+pub use binding::bind_all;
 use mysql::Column;
 pub use records::{BindRecord, ClientError, Fetched, PAST_COLUMN, Report};
 pub use whole::fetch_whole;
 
-// A client library that holds the result of one statement.
+// A client library that holds the result of one statement. The calls are those of MySQL's C API: a call answers a flag or a number, and
+// what it failed with is asked for by a call of its own; `bind_all` makes a Result of the two.
 pub trait Host {
     ghost meaning: { Self → Meaning };
 

@@ -14,13 +14,5 @@ pub fn fetch_whole<H: Host>(
 ) -> bool
     ensures { Came result (H.Host.meaning host.old) places.now reports.new arena.new }
 {
-    if !host.bind(places) {
-        return false;
-    }
-    match host.fetch(arena, reports) {
-        Fetched::Row => true,
-        Fetched::Truncated => false,
-        Fetched::NoData => false,
-        Fetched::Failed => false,
-    }
+    host.bind(places) && matches!(host.fetch(arena, reports), Fetched::Row)
 }

@@ -1,35 +1,45 @@
 -- Reports and events, counted one after the other.
 -- Assumes nothing.
-use Rattle.std.proofs.Common.{◌≡◌, ℕ, suc, ◌+◌, ◌^◌, ◌<◌, Bool, true, false, cond, ◌&&◌, eqb, ◌⊎◌, List, [], ◌∷◌, length, get_or, drop, Some, None, Option, sym, refl, ap, ◌∙◌, subst, inl, inr, ⊎_elim, arith}
-use Rattle.std.proofs.lemmas.List.{drop_more, length-map}
+use Rattle.std.proofs.Common.{◌≡◌, ℕ, suc, ◌+◌, ◌^◌, ◌<◌, Bool, true, false, cond, ◌&&◌, eqb, ◌⊎◌, List, [], ◌∷◌, length, get_or, Some, None, Option, fold, sum_by, sym, refl, ap, ◌∙◌, subst, inl, inr, ⊎_elim, arith}
+use Rattle.std.proofs.lemmas.List.{length-map}
+use Rattle.std.proofs.lemmas.List.Sums.{sum_by-cons}
 use Rattle.std.proofs.lemmas.Bool.{cases_Bool, eq-eqb}
 use Rattle.mysql.specs.declared.bind.Column.{Column}
 use Rattle.host.specs.declared.records.BindRecord.{BindRecord}
 use Rattle.host.specs.declared.records.Report.{Report}
+use Rattle.host.specs.declared.records.Fetched.{Fetched}
+use Rattle.host.specs.declared.records.Fetched.TheVariants as answer
 use Rattle.host.specs.Fields.{Field, null, held}
 use Rattle.host.specs.Meanings.{Row, Event, row, failure, Meaning}
-use Rattle.host.specs.Calls.{no_record, no_report, field_of, Reported, in_order, all_end_by, carried, bind_error, after_bind, allows, NotAllowed, FailureCame}
+use Rattle.host.specs.Calls.{no_record, no_report, field_of, Reported, in_order, all_end_by, carried, bind_error, after_bind, allows, NotAllowed, FailureCame, RowCame, Fetches}
 use Rattle.host.proofs.Bound.{bind_after}
 use Rattle.tally.specs.declared.totals.Totals.{Totals}
 use Rattle.tally.specs.Tallies.{own_record, own_records, null_count, byte_count, row_sum, rows_in, failures_in, fields_in, capped, NoCount}
-use Rattle.tally.specs.Reports.{null_reports, byte_reports, with_row}
+use Rattle.tally.specs.Reports.{nulls_of, bytes_of, null_reports, byte_reports, with_report, with_row}
 
--- one report more
+-- reports, added one after the other
 
-module _ (rs : List Report) (i : ℕ) (l : i < length rs) where
-  pub nulls_more : (z : Bool) → (get_or rs i no_report).is_null ≡ z → null_reports (drop i rs) ≡ cond z 1 0 + null_reports (drop (i + 1) rs)
-  nulls_more z h = ap null_reports (drop_more rs i no_report l) ∙ ap (λ b. cond b 1 0 + null_reports (drop (i + 1) rs)) h
+same : (t : Totals) (nulls bytes : ℕ) → t.nulls ≡ nulls → t.bytes ≡ bytes → t ≡ record { rows = t.rows; failures = t.failures; nulls = nulls; bytes = bytes }
+same t nulls bytes n b = ap (λ x. record { rows = t.rows; failures = t.failures; nulls = x; bytes = t.bytes }) n ∙ ap (λ x. record { rows = t.rows; failures = t.failures; nulls = nulls; bytes = x }) b
 
-  pub bytes_more : (z : Bool) → (get_or rs i no_report).is_null ≡ z → byte_reports (drop i rs) ≡ cond z 0 (get_or rs i no_report).length + byte_reports (drop (i + 1) rs)
-  bytes_more z h = ap byte_reports (drop_more rs i no_report l) ∙ ap (λ b. cond b 0 (get_or rs i no_report).length + byte_reports (drop (i + 1) rs)) h
+pub reports_added : (rs : List Report) (t : Totals) → t.nulls < 2 ^ 64 → t.bytes < 2 ^ 64
+    → fold with_report t rs ≡ record { rows = t.rows; failures = t.failures; nulls = capped (t.nulls + null_reports rs); bytes = capped (t.bytes + byte_reports rs) }
+reports_added [] t n b = same t _ _ (omega arith) (omega arith)
+reports_added (r ∷ rs) t n b =
+    (elim r.is_null as (λ z. null_reports (r ∷ rs) ≡ cond z 1 0 + null_reports rs → byte_reports (r ∷ rs) ≡ cond z 0 r.length + byte_reports rs
+    → fold with_report (cond z (record t { nulls = capped (t.nulls + 1) }) (record t { bytes = capped (t.bytes + r.length) })) rs
+    ≡ record { rows = t.rows; failures = t.failures; nulls = capped (t.nulls + null_reports (r ∷ rs)); bytes = capped (t.bytes + byte_reports (r ∷ rs)) }) [
+      | true ↦ λ p q. reports_added rs (record t { nulls = capped (t.nulls + 1) }) (omega arith) b ∙ same _ _ _ (omega arith) (omega arith)
+      | false ↦ λ p q. reports_added rs (record t { bytes = capped (t.bytes + r.length) }) n (omega arith) ∙ same _ _ _ (omega arith) (omega arith)
+    ]) (sum_by-cons nulls_of r rs) (sum_by-cons bytes_of r rs)
 
 -- reports count for what their fields count for
 
-null_one : (f : Field) (n : ℕ) (r : Report) → Reported f n r → cond r.is_null 1 0 ≡ null_count f
+null_one : (f : Field) (n : ℕ) (r : Report) → Reported f n r → nulls_of r ≡ null_count f
 null_one null n r h = ap (λ b. cond b 1 0) h.0
 null_one (held lost bs) n r h = ap (λ b. cond b 1 0) h.0
 
-byte_one : (f : Field) (n : ℕ) (r : Report) → Reported f n r → cond r.is_null 0 r.length ≡ byte_count f
+byte_one : (f : Field) (n : ℕ) (r : Report) → Reported f n r → bytes_of r ≡ byte_count f
 byte_one null n r h = ap (λ b. cond b 0 r.length) h.0
 byte_one (held lost bs) n r h = ap (λ b. cond b 0 r.length) h.0 ∙ h.1
 
@@ -45,23 +55,16 @@ module _ (fields : Row) where
       let z : i + suc k ≡ suc i + k = omega arith in
       subst (λ (n : ℕ). Reported (field_of fields n (get_or ps k no_record)) (get_or ps k no_record).capacity (get_or rs k no_report)) z (h (suc k) (omega arith))
 
-  pub nulls_are : (i : ℕ) (ps : List BindRecord) (rs : List Report) → length rs ≡ length ps → AllReported i ps rs → null_reports rs ≡ row_sum null_count fields i ps
-  nulls_are i [] [] n h = refl
-  nulls_are i [] (r ∷ rs) n h = absurd (omega arith)
-  nulls_are i (p ∷ ps) [] n h = absurd (omega arith)
-  nulls_are i (p ∷ ps) (r ∷ rs) n h =
-      let a = null_one (field_of fields i p) p.capacity r (first_reported i p ps r rs h) in
-      let b = nulls_are (suc i) ps rs (omega arith) (rest_reported i p ps r rs h) in
-      omega arith
-
-  pub bytes_are : (i : ℕ) (ps : List BindRecord) (rs : List Report) → length rs ≡ length ps → AllReported i ps rs → byte_reports rs ≡ row_sum byte_count fields i ps
-  bytes_are i [] [] n h = refl
-  bytes_are i [] (r ∷ rs) n h = absurd (omega arith)
-  bytes_are i (p ∷ ps) [] n h = absurd (omega arith)
-  bytes_are i (p ∷ ps) (r ∷ rs) n h =
-      let a = byte_one (field_of fields i p) p.capacity r (first_reported i p ps r rs h) in
-      let b = bytes_are (suc i) ps rs (omega arith) (rest_reported i p ps r rs h) in
-      omega arith
+  -- where a report counts for what its field counts for, the reports count for what the row counts for
+  pub counts_are : (of_report : Report → ℕ) (of_field : Field → ℕ) → ((f : Field) (n : ℕ) (r : Report) → Reported f n r → of_report r ≡ of_field f)
+      → (i : ℕ) (ps : List BindRecord) (rs : List Report) → length rs ≡ length ps → AllReported i ps rs → sum_by of_report rs ≡ row_sum of_field fields i ps
+  counts_are of_report of_field fits i [] [] n h = refl
+  counts_are of_report of_field fits i [] (r ∷ rs) n h = absurd (omega arith)
+  counts_are of_report of_field fits i (p ∷ ps) [] n h = absurd (omega arith)
+  counts_are of_report of_field fits i (p ∷ ps) (r ∷ rs) n h =
+      let a = fits (field_of fields i p) p.capacity r (first_reported i p ps r rs h) in
+      let b = counts_are of_report of_field fits (suc i) ps rs (omega arith) (rest_reported i p ps r rs h) in
+      sum_by-cons of_report r rs ∙ omega arith
 
 -- places without room are in order and end by the end of any arena
 
@@ -106,8 +109,8 @@ module _ (t : Totals) (m m₀ : Meaning) (g : Going t m m₀) where
       let told' : AllReported fields 0 bs rs = subst (λ (ps : List BindRecord). AllReported fields 0 ps rs) same
       (λ k l. let z : k ≡ 0 + k = omega arith in subst (λ (i : ℕ). Reported (field_of fields i (get_or places k no_record)) (get_or places k no_record).capacity (get_or rs k no_report)) z (told k l)) in
       let long : length rs ≡ length bs = n ∙ sym (length-map m₀.columns own_record) in
-      let ns = nulls_are fields 0 bs rs long told' in
-      let ys = bytes_are fields 0 bs rs long told' in
+      let ns = counts_are fields nulls_of null_count null_one 0 bs rs long told' in
+      let ys = counts_are fields bytes_of byte_count byte_one 0 bs rs long told' in
       let coming : m'.coming ≡ rest = ap (λ (x : Meaning). x.coming) after in
       record {
         columns = ap (λ (x : Meaning). x.columns) after ∙ g.columns;
@@ -156,7 +159,7 @@ still_allowed t m m₀ n g h =
     ∙ eq-eqb n (length m.columns) (h ∙ ap length (sym g.columns))
 
 pub failed_came : (m m' : Meaning) (rs rs' : List Report) (a a' : List ℕ) → allows m (length a) (length rs) ≡ true → NotAllowed m m' rs rs' a a' ⊎ FailureCame m m' rs rs' a a' → FailureCame m m' rs rs' a a'
-failed_came m m' rs rs' a a' ok (inl h) = let e = h.refused in let z : ◌≡◌ {A = ℕ} 0 1 = cc in absurd (omega arith)
+failed_came m m' rs rs' a a' ok (inl h) = let e = h.refused in cc
 failed_came m m' rs rs' a a' ok (inr h) = h
 
 pub fewer : {X : Type 0} (xs ys rest : List X) (x : X) → xs ≡ x ∷ rest → ys ≡ rest → length ys < length xs
@@ -181,9 +184,14 @@ module _ (m m' : Meaning) (bs : List BindRecord) (e : bs ≡ own_records m.colum
   no_count refused = ⊎_elim
       (λ (h : carried m 0 own ≡ true).
       let x = refused ∙ ap (λ ys. eqb (bind_error m ys) 0) e ∙ ap (λ n. eqb n 0) (own_error true h) in
-      let z : ◌≡◌ {A = ℕ} 0 1 = cc in absurd (omega arith))
+      cc)
       (λ (h : carried m 0 own ≡ false). record {
         lacks = h;
         after = after_own ∙ sym (bind_after m own 2036 (own_error false h));
       })
       (cases_Bool (carried m 0 own))
+
+-- a fetch that brought a row, truncated or not
+pub row_fetched : {r : Fetched} (m m' : Meaning) (rs rs' : List Report) (a a' : List ℕ) → (r ≡ answer.Row) ⊎ (r ≡ answer.Truncated) → Fetches r m m' rs rs' a a' → (z : Bool) × RowCame z m m' rs rs' a a'
+row_fetched m m' rs rs' a a' (inl e) h = (false, subst (λ (r : Fetched). Fetches r m m' rs rs' a a') e h)
+row_fetched m m' rs rs' a a' (inr e) h = (true, subst (λ (r : Fetched). Fetches r m m' rs rs' a a') e h)

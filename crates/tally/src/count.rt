@@ -1,37 +1,47 @@
 // The count over any host.
-ghost use Rattle.std.specs.Prelude.{◌≡◌, length, Some};
+ghost use Rattle.std.specs.Prelude.{◌≡◌, length, Some, fold};
 ghost use Rattle.tally.specs.Tallies.{own_records, counted, emptied, Tallied};
-ghost use Rattle.tally.specs.Reports.{with_row};
+ghost use Rattle.tally.specs.Reports.{with_report, with_row};
 
 use crate::records::own_records;
 use crate::totals::Totals;
 use host::{Fetched, Host, Report};
 
-const NO_REPORT: Report = Report {
-    length: 0,
-    is_null: false,
-    is_truncated: false,
-};
+// A report more.
+fn add_report(totals: Totals, report: &Report) -> Totals
+    ensures { result ≡ with_report totals report.now }
+{
+    if report.is_null {
+        Totals {
+            nulls: totals.nulls.saturating_add(1),
+            ..totals
+        }
+    } else {
+        Totals {
+            bytes: totals.bytes.saturating_add(report.length),
+            ..totals
+        }
+    }
+}
+
+// So many reports more.
+fn add_reports(totals: Totals, reports: &[Report]) -> Totals
+    ensures { result ≡ fold with_report totals reports.now }
+{
+    reports
+        .iter()
+        .fold(totals, |totals, report| add_report(totals, report))
+}
 
 // A row more, with these reports.
 fn add_row(totals: Totals, reports: &[Report]) -> Totals
     ensures { result ≡ with_row reports.now totals }
 {
-    let mut nulls = totals.nulls;
-    let mut bytes = totals.bytes;
-    for report in reports {
-        if report.is_null {
-            nulls = nulls.saturating_add(1);
-        } else {
-            bytes = bytes.saturating_add(report.length);
-        }
-    }
-    Totals {
+    let row = Totals {
         rows: totals.rows.saturating_add(1),
-        failures: totals.failures,
-        nulls,
-        bytes,
-    }
+        ..totals
+    };
+    add_reports(row, reports)
 }
 
 // Fetches to the end, and counts.
@@ -41,16 +51,10 @@ fn count_events<H: Host>(host: &mut H, reports: &mut [Report]) -> Totals
     ensures counted { result ≡ counted (H.Host.meaning host.old) }
     ensures after { H.Host.meaning host.new ≡ emptied (H.Host.meaning host.old) }
 {
-    let mut totals = Totals {
-        rows: 0,
-        failures: 0,
-        nulls: 0,
-        bytes: 0,
-    };
+    let mut totals = Totals::default();
     loop {
         match host.fetch(&mut [], reports) {
-            Fetched::Row => totals = add_row(totals, reports),
-            Fetched::Truncated => totals = add_row(totals, reports),
+            Fetched::Row | Fetched::Truncated => totals = add_row(totals, reports),
             Fetched::Failed => totals.failures = totals.failures.saturating_add(1),
             Fetched::NoData => return totals,
         }
@@ -62,11 +66,10 @@ fn count_events<H: Host>(host: &mut H, reports: &mut [Report]) -> Totals
 pub fn tally<H: Host>(host: &mut H) -> Option<Totals>
     ensures { Tallied result (H.Host.meaning host.old) (H.Host.meaning host.new) }
 {
-    let width = host.column_count();
     let records = own_records(host);
-    if !host.bind(&records[..width]) {
+    if !host.bind(&records) {
         return None;
     }
-    let mut reports = [NO_REPORT; 64];
-    Some(count_events(host, &mut reports[..width]))
+    let mut reports = [Report::default(); 64];
+    Some(count_events(host, &mut reports[..records.len()]))
 }

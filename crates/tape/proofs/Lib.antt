@@ -1,4 +1,6 @@
 pub mod Steps
 pub mod Walked
 pub mod Same
+pub mod Fitting
+pub mod Counted
 pub mod Whole

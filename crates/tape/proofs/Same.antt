@@ -1,24 +1,45 @@
 -- The way back undoes the format, and takes nothing else for a tape.
 -- Assumes nothing.
-use Rattle.std.proofs.Common.{◌≡◌, ℕ, zero, suc, ◌+◌, ◌*◌, ◌/◌, ◌%◌, ◌^◌, ◌<◌, ◌≤◌, Bool, true, false, cond, not, eqb, leb, List, [], ◌∷◌, ◌++◌, length, get_or, take, drop, Some, None, Option, sym, refl, ap, ◌∙◌, subst, arith}
+use Rattle.std.proofs.Common.{◌≡◌, ℕ, zero, suc, ◌+◌, ◌*◌, ◌/◌, ◌%◌, ◌^◌, ◌<◌, ◌≤◌, Bool, true, false, cond, not, eqb, leb, List, [], ◌∷◌, ◌++◌, length, get_or, take, drop, Some, None, Option, sym, refl, ap, ◌∙◌, subst, arith, lit<}
 use Rattle.std.proofs.lemmas.List.{append_assoc, append-nil, take_at, drop_at, length-append, length-take, take-append-drop}
 use Rattle.std.proofs.lemmas.Bool.{le-leb, eq-eqb, leb-true, eqb-true, eqb-false, ne_eqb, not-true, not_from_false}
 use Rattle.std.specs.List.{flat_map, AllByRecursion}
 use Rattle.mysql.specs.declared.bind.Column.{Column}
+use Rattle.mysql.specs.Ranges.{among}
 use Rattle.mysql.specs.Types.{size_of}
-use Rattle.tape.specs.Format.{Field, null, held, Event, row, failure, Contents, two, four, tag, field_bytes, event_bytes, column_bytes, HeldAt, FieldAt, RowOf, EventOf, ColumnFits, TapeOf}
+use Rattle.host.specs.Fields.{Field, null, held, HeldAt, FieldAt}
+use Rattle.host.specs.Meanings.{ColumnFits}
+use Rattle.tape.specs.Format.{Event, row, failure, Contents, two, four, tag, field_bytes, event_bytes, column_bytes, RowOf, EventOf, TapeOf}
 use Rattle.tape.specs.Decode.{Taken, taken, next, given, take2, take4, fits, cut, take_held, take_field, take_fields, take_event, take_events, take_column, take_columns, ended, take_body, take_tape}
 use Rattle.tape.proofs.Steps.{never, given_is, given_split, next_split, moved}
 
 -- from the format to the way back
 
-two_back : (n : ℕ) (r : List ℕ) → take2 (two n ++ r) ≡ taken n r
-two_back n r = let e : n % 256 + n / 256 * 256 ≡ n = omega arith in ap (λ k. taken k r) e
+two_back : (n : ℕ) (r : List ℕ) → n < 2 ^ 16 → take2 (two n ++ r) ≡ taken n r
+two_back n r l = let e : (n % 256 + n / 256 * 256) % 2 ^ 16 ≡ n = omega arith in ap (λ k. taken k r) e
 
-four_back : (n : ℕ) (r : List ℕ) → take4 (four n ++ r) ≡ taken n r
-four_back n r =
+four_back : (n : ℕ) (r : List ℕ) → n < 2 ^ 32 → take4 (four n ++ r) ≡ taken n r
+four_back n r l =
     let e : n % 256 + n / 256 % 256 * 256 + n / 65536 % 256 * 65536 + n / 16777216 * 16777216 ≡ n = omega arith in
-    ap (λ k. taken k r) e
+    let z : n % 2 ^ 32 ≡ n = omega arith in
+    ap (λ k. taken (k % 2 ^ 32) r) e ∙ ap (λ k. taken k r) z
+
+-- a code's size is small
+size_by : (b : Bool) (n : ℕ) (s : Option ℕ) (size : ℕ) → n < 2 ^ 32 → (s ≡ Some size → size < 2 ^ 32) → cond b (Some n) s ≡ Some size → size < 2 ^ 32
+size_by true n s size l h e = let z : n ≡ size = cc in omega arith
+size_by false n s size l h e = h e
+
+size_small : (code size : ℕ) → size_of code ≡ Some size → size < 2 ^ 32
+size_small code size =
+    size_by (eqb code 1) 1 _ size (lit< tt)
+    (size_by (among (2 ∷ 13 ∷ []) code) 2 _ size (lit< tt)
+    (size_by (among (3 ∷ 4 ∷ 9 ∷ []) code) 4 _ size (lit< tt)
+    (size_by (among (5 ∷ 8 ∷ []) code) 8 _ size (lit< tt)
+    (size_by (among (7 ∷ 10 ∷ 11 ∷ 12 ∷ []) code) 48 None size (lit< tt) (λ e. let z : ◌≡◌ {A = ℕ} 0 1 = cc in absurd (omega arith))))))
+
+held_short : (s : Option ℕ) (lost : Bool) (bs : List ℕ) → ((size : ℕ) → s ≡ Some size → size < 2 ^ 32) → HeldAt s lost bs → length bs < 2 ^ 32
+held_short (Some size) lost bs small h = let l = small size refl in omega arith
+held_short None lost bs small h = h.1
 
 fits_back : (s : Option ℕ) (lost : Bool) (bs : List ℕ) → HeldAt s lost bs → fits s lost (length bs) ≡ true
 fits_back (Some size) lost bs h = eq-eqb (length bs) size h
@@ -32,7 +53,7 @@ cut_back lost bs r =
 
 held_back : (code : ℕ) (lost : Bool) (bs r : List ℕ) → HeldAt (size_of code) lost bs → take_held code lost (four (length bs) ++ (bs ++ r)) ≡ taken (held lost bs) r
 held_back code lost bs r h =
-    ap (λ t. next t (λ n q. given (fits (size_of code) lost n) (cut lost n q))) (four_back (length bs) (bs ++ r))
+    ap (λ t. next t (λ n q. given (fits (size_of code) lost n) (cut lost n q))) (four_back (length bs) (bs ++ r) (held_short (size_of code) lost bs (size_small code) h))
     ∙ given_is (fits (size_of code) lost (length bs)) _ (fits_back (size_of code) lost bs h)
     ∙ cut_back lost bs r
 
@@ -53,7 +74,7 @@ fields_back (c ∷ cs) (f ∷ fs) r h =
 event_back : (cs : List Column) (e : Event) (r : List ℕ) → EventOf cs e → take_event cs (event_bytes e ++ r) ≡ taken e r
 event_back cs (row fs) r h = ap (λ t. next t (λ gs s. taken (row gs) s)) (fields_back cs fs r h)
 event_back cs (failure n) r h =
-    ap (λ t. next t (λ k s. given (not (eqb k 0)) (taken (failure k) s))) (two_back n r)
+    ap (λ t. next t (λ k s. given (not (eqb k 0)) (taken (failure k) s))) (two_back n r (omega arith))
     ∙ given_is (not (eqb n 0)) _ (not_from_false (eqb n 0) (ne_eqb n 0 (λ z. omega arith)))
 
 events_back : (cs : List Column) (es : List Event) (r : List ℕ) → AllByRecursion (EventOf cs) es → take_events cs (length es) (flat_map event_bytes es ++ r) ≡ taken es r
@@ -63,16 +84,19 @@ events_back cs (e ∷ es) r h =
     ∙ ap (λ t. next t (λ g q. next (take_events cs (length es) q) (λ gs s. taken (g ∷ gs) s))) (event_back cs e (flat_map event_bytes es ++ r) h.0)
     ∙ ap (λ t. next t (λ gs s. taken (e ∷ gs) s)) (events_back cs es r h.1)
 
-columns_back : (cs : List Column) (r : List ℕ) → take_columns (length cs) (flat_map column_bytes cs ++ r) ≡ taken cs r
-columns_back [] r = refl
-columns_back (c ∷ cs) r =
+columns_back : (cs : List Column) (r : List ℕ) → AllByRecursion ColumnFits cs → take_columns (length cs) (flat_map column_bytes cs ++ r) ≡ taken cs r
+columns_back [] r h = refl
+columns_back (c ∷ cs) r h =
+    let l = h.0.0 in
+    let z : c.code % 256 ≡ c.code = omega arith in
     ap (take_columns (suc (length cs))) (append_assoc (column_bytes c) (flat_map column_bytes cs) r)
-    ∙ ap (λ t. next (next t (λ n q. taken (record { code = c.code; flags = n }) q)) (λ g q. next (take_columns (length cs) q) (λ gs s. taken (g ∷ gs) s))) (four_back c.flags (flat_map column_bytes cs ++ r))
-    ∙ ap (λ t. next t (λ gs s. taken (c ∷ gs) s)) (columns_back cs r)
+    ∙ ap (λ t. next (next t (λ n q. taken (record { code = c.code % 256; flags = n }) q)) (λ g q. next (take_columns (length cs) q) (λ gs s. taken (g ∷ gs) s))) (four_back c.flags (flat_map column_bytes cs ++ r) h.0.1)
+    ∙ ap (λ k. next (take_columns (length cs) (flat_map column_bytes cs ++ r)) (λ gs s. taken (record { code = k; flags = c.flags } ∷ gs) s)) z
+    ∙ ap (λ t. next t (λ gs s. taken (c ∷ gs) s)) (columns_back cs r h.1)
 
-body_back : (t : Contents) → AllByRecursion (EventOf t.columns) t.events → take_body (length t.columns) (length t.events) (flat_map column_bytes t.columns ++ flat_map event_bytes t.events) ≡ taken t []
-body_back t h =
-    ap (λ x. next x (λ cs r. next (take_events cs (length t.events) r) (λ es s. ended (record { columns = cs; events = es }) s))) (columns_back t.columns (flat_map event_bytes t.events))
+body_back : (t : Contents) → AllByRecursion ColumnFits t.columns → AllByRecursion (EventOf t.columns) t.events → take_body (length t.columns) (length t.events) (flat_map column_bytes t.columns ++ flat_map event_bytes t.events) ≡ taken t []
+body_back t g h =
+    ap (λ x. next x (λ cs r. next (take_events cs (length t.events) r) (λ es s. ended (record { columns = cs; events = es }) s))) (columns_back t.columns (flat_map event_bytes t.events) g)
     ∙ ap (λ u. next (take_events t.columns (length t.events) u) (λ es s. ended (record { columns = t.columns; events = es }) s)) (sym (append-nil (flat_map event_bytes t.events)))
     ∙ ap (λ x. next x (λ es s. ended (record { columns = t.columns; events = es }) s)) (events_back t.columns t.events [] h)
 
@@ -82,10 +106,10 @@ tape_back bytes t h =
     let n = length t.events in
     let body = flat_map column_bytes t.columns ++ flat_map event_bytes t.events in
     ap take_tape (sym h.bytes_are)
-    ∙ ap (λ x. next x (λ w r. next (take2 r) (λ n s. given (leb w 64) (take_body w n s)))) (two_back w (two n ++ body))
-    ∙ ap (λ x. next x (λ n s. given (leb w 64) (take_body w n s))) (two_back n body)
+    ∙ ap (λ x. next x (λ w r. next (take2 r) (λ n s. given (leb w 64) (take_body w n s)))) (two_back w (two n ++ body) (omega (arith, h.narrow)))
+    ∙ ap (λ x. next x (λ n s. given (leb w 64) (take_body w n s))) (two_back n body h.few)
     ∙ given_is (leb w 64) (take_body w n body) (le-leb w 64 h.narrow)
-    ∙ body_back t h.events_of
+    ∙ body_back t h.columns_fit h.events_of
 
 -- from the way back to the format
 
@@ -107,7 +131,8 @@ two_sound : (bs : List ℕ) (n : ℕ) (r : List ℕ) → Bytes bs → take2 bs �
 two_sound [] n r h e = never n r e
 two_sound (a ∷ []) n r h e = never n r e
 two_sound (a ∷ b ∷ q) n r h e =
-    let s : a + b * 256 ≡ n = cc in
+    let v : (a + b * 256) % 2 ^ 16 ≡ n = cc in
+    let s : a + b * 256 ≡ n = omega arith in
     let t : q ≡ r = cc in
     let p : n % 256 ≡ a = omega arith in
     let u : n / 256 ≡ b = omega arith in
@@ -119,7 +144,8 @@ four_sound (a ∷ []) n r h e = never n r e
 four_sound (a ∷ b ∷ []) n r h e = never n r e
 four_sound (a ∷ b ∷ c ∷ []) n r h e = never n r e
 four_sound (a ∷ b ∷ c ∷ d ∷ q) n r h e =
-    let s : a + b * 256 + c * 65536 + d * 16777216 ≡ n = cc in
+    let v : (a + b * 256 + c * 65536 + d * 16777216) % 2 ^ 32 ≡ n = cc in
+    let s : a + b * 256 + c * 65536 + d * 16777216 ≡ n = omega arith in
     let t : q ≡ r = cc in
     let p0 : n % 256 ≡ a = omega arith in
     let q1 : n / 256 ≡ b + 256 * (c + 256 * d) = omega arith in
@@ -131,7 +157,7 @@ four_sound (a ∷ b ∷ c ∷ d ∷ q) n r h e =
     let p3 : n / 16777216 ≡ d = omega arith in
     (omega arith, cc)
 
-fits_sound : (s : Option ℕ) (lost : Bool) (n : ℕ) (bs : List ℕ) → length bs ≡ n → n < 2 ^ 32 → fits s lost n ≡ true → HeldAt s lost bs
+pub fits_sound : (s : Option ℕ) (lost : Bool) (n : ℕ) (bs : List ℕ) → length bs ≡ n → n < 2 ^ 32 → fits s lost n ≡ true → HeldAt s lost bs
 fits_sound (Some size) lost n bs l b e = l ∙ eqb-true n size e
 fits_sound None lost n bs l b e = (not-true lost e, subst (λ k. k < 2 ^ 32) (sym l) b)
 
@@ -151,7 +177,7 @@ held_sound code lost bs f r h e =
       ap (λ k. tag lost ∷ (four k ++ (take n q ++ drop n q))) long ∙ ap (λ u. tag lost ∷ (four n ++ u)) (take-append-drop n q) ∙ ap (λ u. tag lost ∷ u) s.1,
     )
 
-by_cond : {X : Type 0} (P : Taken X → Type 0) (b : Bool) (x y : Taken X) → (b ≡ true → P x) → (b ≡ false → P y) → P (cond b x y)
+pub by_cond : {X : Type 0} (P : Taken X → Type 0) (b : Bool) (x y : Taken X) → (b ≡ true → P x) → (b ≡ false → P y) → P (cond b x y)
 by_cond P true x y f g = f refl
 by_cond P false x y f g = g refl
 
@@ -212,10 +238,12 @@ events_sound cs (suc n) bs es r h e =
 column_sound : (bs : List ℕ) (c : Column) (r : List ℕ) → Bytes bs → take_column bs ≡ taken c r → (ColumnFits c) × (column_bytes c ++ r ≡ bs)
 column_sound [] c r h e = never c r e
 column_sound (a ∷ bs) c r h e =
-    let w = next_split (take4 bs) (λ k q. taken (record { code = a; flags = k }) q) c r e in
+    let w = next_split (take4 bs) (λ k q. taken (record { code = a % 256; flags = k }) q) c r e in
     let s = four_sound bs w.first w.rest h.1 w.was in
     let P : Column → List ℕ → Type 0 = λ c q. (ColumnFits c) × (column_bytes c ++ q ≡ a ∷ bs) in
-    moved P w.then ((h.0, s.0), ap (λ u. a ∷ u) s.1)
+    let l = h.0 in
+    let z : a ≡ a % 256 = omega arith in
+    moved P w.then ((omega arith, s.0), ap (λ u. u ∷ (four w.first ++ w.rest)) (sym z) ∙ ap (λ u. a ∷ u) s.1)
 
 columns_sound : (n : ℕ) (bs : List ℕ) (cs : List Column) (r : List ℕ) → Bytes bs → take_columns n bs ≡ taken cs r → (AllByRecursion ColumnFits cs) × (flat_map column_bytes cs ++ r ≡ bs) × (length cs ≡ n)
 columns_sound zero bs cs r h e = let P : List Column → List ℕ → Type 0 = λ g u. (AllByRecursion ColumnFits g) × (flat_map column_bytes g ++ u ≡ bs) × (length g ≡ 0) in moved P e (tt, refl, refl)

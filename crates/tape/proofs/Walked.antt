@@ -1,10 +1,11 @@
 -- What the steps over a tape's bytes take off their front.
 -- Assumes nothing.
-use Rattle.std.proofs.Common.{◌≡◌, ℕ, suc, ◌+◌, ◌-◌, ◌*◌, ◌≤◌, not, eqb, List, [], ◌∷◌, length, get_or, take, drop, Some, None, sym, refl, ap, ◌∙◌, arith}
+use Rattle.std.proofs.Common.{◌≡◌, ℕ, suc, ◌+◌, ◌-◌, ◌*◌, ◌%◌, ◌^◌, ◌<◌, ◌≤◌, not, eqb, List, [], ◌∷◌, length, get_or, take, drop, Some, None, sym, refl, ap, ◌∙◌, arith}
 use Rattle.std.proofs.lemmas.List.{take_rest}
 use Rattle.std.proofs.lemmas.Bool.{eq-eqb, ne_eqb}
 use Rattle.mysql.specs.declared.bind.Column.{Column}
-use Rattle.tape.specs.Format.{Field, Event, row, failure}
+use Rattle.host.specs.Fields.{Field}
+use Rattle.tape.specs.Format.{Event, row, failure}
 use Rattle.tape.specs.Decode.{Taken, taken, broken, next, given, left, take2, take4, field_by, take_field, take_fields, take_column, take_failure, event_by, take_event, take_events}
 use Rattle.tape.specs.Views.{columns_in, fields_in}
 use Rattle.tape.proofs.Steps.{never, next_split}
@@ -13,17 +14,19 @@ use Rattle.tape.proofs.Steps.{never, next_split}
 abbrev pub tail : List ℕ → List ℕ
 tail b = take (length b - 1) (drop 1 b)
 
-pub take2_at : (b : List ℕ) (n : ℕ) → 2 ≤ length b → n ≡ get_or b 0 0 + get_or b 1 0 * 256 → take2 b ≡ taken n (take (length b - 2) (drop 2 b))
-take2_at [] n l e = absurd (omega arith)
-take2_at (a ∷ []) n l e = absurd (omega arith)
-take2_at (a ∷ b ∷ r) n l e = ap (λ k. taken k r) (sym e) ∙ ap (taken n) (sym (take_rest (a ∷ b ∷ r) 2))
+pub take2_at : (b : List ℕ) (n : ℕ) → 2 ≤ length b → n ≡ get_or b 0 0 + get_or b 1 0 * 256 → n < 2 ^ 16 → take2 b ≡ taken n (take (length b - 2) (drop 2 b))
+take2_at [] n l e m = absurd (omega arith)
+take2_at (a ∷ []) n l e m = absurd (omega arith)
+take2_at (a ∷ b ∷ r) n l e m = let z : (a + b * 256) % 2 ^ 16 ≡ n = omega arith in ap (λ k. taken k r) z ∙ ap (taken n) (sym (take_rest (a ∷ b ∷ r) 2))
 
-pub take4_at : (b : List ℕ) (n : ℕ) → 4 ≤ length b → n ≡ get_or b 0 0 + get_or b 1 0 * 256 + get_or b 2 0 * 65536 + get_or b 3 0 * 16777216 → take4 b ≡ taken n (take (length b - 4) (drop 4 b))
-take4_at [] n l e = absurd (omega arith)
-take4_at (a ∷ []) n l e = absurd (omega arith)
-take4_at (a ∷ b ∷ []) n l e = absurd (omega arith)
-take4_at (a ∷ b ∷ c ∷ []) n l e = absurd (omega arith)
-take4_at (a ∷ b ∷ c ∷ d ∷ r) n l e = ap (λ k. taken k r) (sym e) ∙ ap (taken n) (sym (take_rest (a ∷ b ∷ c ∷ d ∷ r) 4))
+pub take4_at : (b : List ℕ) (n : ℕ) → 4 ≤ length b → n ≡ get_or b 0 0 + get_or b 1 0 * 256 + get_or b 2 0 * 65536 + get_or b 3 0 * 16777216 → n < 2 ^ 32 → take4 b ≡ taken n (take (length b - 4) (drop 4 b))
+take4_at [] n l e m = absurd (omega arith)
+take4_at (a ∷ []) n l e m = absurd (omega arith)
+take4_at (a ∷ b ∷ []) n l e m = absurd (omega arith)
+take4_at (a ∷ b ∷ c ∷ []) n l e m = absurd (omega arith)
+take4_at (a ∷ b ∷ c ∷ d ∷ r) n l e m =
+    let z : (a + b * 256 + c * 65536 + d * 16777216) % 2 ^ 32 ≡ n = omega arith in
+    ap (λ k. taken k r) z ∙ ap (taken n) (sym (take_rest (a ∷ b ∷ c ∷ d ∷ r) 4))
 
 -- a field whose tag is t
 pub field_tag : (code t : ℕ) (b : List ℕ) → 1 ≤ length b → get_or b 0 0 ≡ t → take_field code b ≡ field_by code t (tail b)
@@ -32,9 +35,12 @@ field_tag code t (a ∷ r) l e = ap (λ k. field_by code k r) e ∙ ap (field_by
 
 -- columns
 
-pub column_code : (b : List ℕ) → 1 ≤ length b → take_column b ≡ next (take4 (tail b)) (λ n r. taken (record { code = get_or b 0 0; flags = n }) r)
-column_code [] l = absurd (omega arith)
-column_code (a ∷ r) l = ap (λ u. next (take4 u) (λ n s. taken (record { code = a; flags = n }) s)) (sym (take_rest (a ∷ r) 1))
+pub column_code : (b : List ℕ) → 1 ≤ length b → get_or b 0 0 < 256 → take_column b ≡ next (take4 (tail b)) (λ n r. taken (record { code = get_or b 0 0; flags = n }) r)
+column_code [] l m = absurd (omega arith)
+column_code (a ∷ r) l m =
+    let z : a % 256 ≡ a = omega arith in
+    ap (λ k. next (take4 r) (λ n s. taken (record { code = k; flags = n }) s)) z
+    ∙ ap (λ u. next (take4 u) (λ n s. taken (record { code = a; flags = n }) s)) (sym (take_rest (a ∷ r) 1))
 
 pub columns_first : (b : List ℕ) (c : Column) (r : List ℕ) → take_column b ≡ taken c r → (columns_in b ≡ c ∷ columns_in r) × (length b ≡ length r + 5)
 columns_first [] c r e = never c r e
@@ -43,7 +49,7 @@ columns_first (x ∷ y ∷ []) c r e = never c r e
 columns_first (x ∷ y ∷ z ∷ []) c r e = never c r e
 columns_first (x ∷ y ∷ z ∷ w ∷ []) c r e = never c r e
 columns_first (x ∷ y ∷ z ∷ w ∷ v ∷ s) c r e =
-    let p : ◌≡◌ {A = Column} (record { code = x; flags = y + z * 256 + w * 65536 + v * 16777216 }) c = cc in
+    let p : ◌≡◌ {A = Column} (record { code = x % 256; flags = (y + z * 256 + w * 65536 + v * 16777216) % 2 ^ 32 }) c = cc in
     let q : s ≡ r = cc in
     (ap (λ u. u ∷ columns_in s) p ∙ ap (λ u. c ∷ columns_in u) q, ap (λ u. length (x ∷ y ∷ z ∷ w ∷ v ∷ u)) q ∙ omega arith)
 

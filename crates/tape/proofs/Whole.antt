@@ -1,9 +1,10 @@
 -- A whole tape, part by part.
 -- Assumes nothing.
-use Rattle.std.proofs.Common.{◌≡◌, ℕ, zero, suc, ◌+◌, ◌-◌, ◌*◌, ◌<◌, ◌≤◌, leb, List, [], ◌∷◌, length, take, drop, Some, None, sym, refl, ap, ◌∙◌, arith}
+use Rattle.std.proofs.Common.{◌≡◌, ℕ, zero, suc, ◌+◌, ◌-◌, ◌*◌, ◌%◌, ◌^◌, ◌<◌, ◌≤◌, leb, List, [], ◌∷◌, length, take, drop, Some, None, sym, refl, ap, ◌∙◌, arith}
 use Rattle.std.proofs.lemmas.Bool.{le-leb, lt-leb}
 use Rattle.mysql.specs.declared.bind.Column.{Column}
-use Rattle.tape.specs.Format.{Field, Event, Contents}
+use Rattle.host.specs.Fields.{Field}
+use Rattle.tape.specs.Format.{Event, Contents}
 use Rattle.tape.specs.Decode.{Taken, taken, broken, next, given, left, take2, take_field, take_event, take_events, take_columns, ended, take_body, take_tape}
 use Rattle.tape.specs.Views.{columns_in, fields_in, events_in}
 use Rattle.tape.proofs.Steps.{given_is, given_not, next_split}
@@ -18,7 +19,7 @@ columns_at (suc w) (a ∷ b ∷ c ∷ []) l = absurd (omega arith)
 columns_at (suc w) (a ∷ b ∷ c ∷ d ∷ []) l = absurd (omega arith)
 columns_at (suc w) (a ∷ b ∷ c ∷ d ∷ e ∷ r) l =
     let k : suc (suc (suc (suc (suc (w * 5))))) ≡ suc w * 5 = omega arith in
-    let f : Column = record { code = a; flags = b + c * 256 + d * 65536 + e * 16777216 } in
+    let f : Column = record { code = a % 256; flags = (b + c * 256 + d * 65536 + e * 16777216) % 2 ^ 32 } in
     ap (λ t. next t (λ cs s. taken (f ∷ cs) s)) (columns_at w r (omega arith))
     ∙ ap (λ n. taken (columns_in (take n (a ∷ b ∷ c ∷ d ∷ e ∷ r))) (drop n (a ∷ b ∷ c ∷ d ∷ e ∷ r))) k
 
@@ -30,7 +31,7 @@ columns_cut (suc w) (a ∷ b ∷ []) l = refl
 columns_cut (suc w) (a ∷ b ∷ c ∷ []) l = refl
 columns_cut (suc w) (a ∷ b ∷ c ∷ d ∷ []) l = refl
 columns_cut (suc w) (a ∷ b ∷ c ∷ d ∷ e ∷ r) l =
-    let f : Column = record { code = a; flags = b + c * 256 + d * 65536 + e * 16777216 } in
+    let f : Column = record { code = a % 256; flags = (b + c * 256 + d * 65536 + e * 16777216) % 2 ^ 32 } in
     ap (λ t. next t (λ cs s. taken (f ∷ cs) s)) (columns_cut w r (omega arith))
 
 pub events_in_is : (cs : List Column) (n : ℕ) (bs : List ℕ) (es : List Event) (r : List ℕ) → take_events cs n bs ≡ taken es r → events_in cs n bs ≡ es

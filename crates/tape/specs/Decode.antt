@@ -1,9 +1,11 @@
 -- The way back from bytes to what they hold, one thing after the other: the thing and the bytes after it, or that no such
--- thing begins the bytes. Nobody need believe this page: the proofs tie it to the format, in both directions.
-use Rattle.std.specs.Prelude.{ℕ, zero, suc, ◌+◌, ◌*◌, Bool, true, false, cond, not, List, [], ◌∷◌, length, take, drop, Some, None, Option, ◌==◌, nat_le}
+-- thing begins the bytes. Nobody need believe this page: the proofs tie it to the format, in both directions. It reads any numbers as
+-- bytes: where one is 256 or more, which no byte is, what is read is cut to its size.
+use Rattle.std.specs.Prelude.{ℕ, zero, suc, ◌+◌, ◌*◌, ◌%◌, ◌^◌, Bool, true, false, cond, not, List, [], ◌∷◌, length, take, drop, Some, None, Option, ◌==◌, nat_le}
 use Rattle.mysql.specs.declared.bind.Column.{Column}
 use Rattle.mysql.specs.Types.{size_of}
-use Rattle.tape.specs.Format.{Field, null, held, Event, row, failure, Contents}
+use Rattle.host.specs.Fields.{Field, null, held}
+use Rattle.tape.specs.Format.{Event, row, failure, Contents}
 
 pub data Taken (X : Type 0) : Type 0 where
   taken : X → List ℕ → Taken X
@@ -25,14 +27,14 @@ left broken = None
 abbrev pub take2 : List ℕ → Taken ℕ
 take2 [] = broken
 take2 (a ∷ []) = broken
-take2 (a ∷ b ∷ r) = taken (a + b * 256) r
+take2 (a ∷ b ∷ r) = taken ((a + b * 256) % 2 ^ 16) r
 
 abbrev pub take4 : List ℕ → Taken ℕ
 take4 [] = broken
 take4 (a ∷ []) = broken
 take4 (a ∷ b ∷ []) = broken
 take4 (a ∷ b ∷ c ∷ []) = broken
-take4 (a ∷ b ∷ c ∷ d ∷ r) = taken (a + b * 256 + c * 65536 + d * 16777216) r
+take4 (a ∷ b ∷ c ∷ d ∷ r) = taken ((a + b * 256 + c * 65536 + d * 16777216) % 2 ^ 32) r
 
 -- whether so many bytes may stand at a code of this size
 abbrev pub fits : Option ℕ → Bool → ℕ → Bool
@@ -72,7 +74,7 @@ take_events cs (suc n) bs = next (take_event cs bs) (λ e r. next (take_events c
 
 abbrev pub take_column : List ℕ → Taken Column
 take_column [] = broken
-take_column (c ∷ bs) = next (take4 bs) (λ n r. taken (record { code = c; flags = n }) r)
+take_column (c ∷ bs) = next (take4 bs) (λ n r. taken (record { code = c % 256; flags = n }) r)
 
 abbrev pub take_columns : ℕ → List ℕ → Taken (List Column)
 take_columns zero bs = taken [] bs

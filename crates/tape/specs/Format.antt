@@ -1,14 +1,10 @@
 -- What a tape is, byte by byte. A tape is the recording of one result: its columns, and then what came of it, one event
 -- after the other. Numbers lie lowest byte first. Nothing stands between the parts or after the last event.
-use Rattle.std.specs.Prelude.{◌≡◌, ℕ, ◌/◌, ◌%◌, ◌^◌, ◌<◌, ◌≤◌, Bool, true, false, List, [], ◌∷◌, ◌++◌, length, Some, None, Option}
+use Rattle.std.specs.Prelude.{◌≡◌, ℕ, ◌/◌, ◌%◌, ◌<◌, ◌≤◌, Bool, true, false, List, [], ◌∷◌, ◌++◌, length}
 use Rattle.std.specs.List.{flat_map, AllByRecursion}
 use Rattle.mysql.specs.declared.bind.Column.{Column}
-use Rattle.mysql.specs.Types.{size_of}
-
--- what a row has in one column: null, or bytes, of which a figure was lost or not
-pub data Field : Type 0 where
-  null : Field
-  held : Bool → List ℕ → Field
+use Rattle.host.specs.Fields.{Field, null, held, FieldAt}
+use Rattle.host.specs.Meanings.{ColumnFits}
 
 -- what came next: a row, or a failure with its number
 pub data Event : Type 0 where
@@ -49,16 +45,6 @@ column_bytes c = c.code ∷ four c.flags
 abbrev pub tape_bytes : Contents → List ℕ
 tape_bytes t = two (length t.columns) ++ (two (length t.events) ++ (flat_map column_bytes t.columns ++ flat_map event_bytes t.events))
 
--- which bytes a field may hold, by the size of its column's code. Where the code has a size, the bytes are as many, and a
--- figure may have been lost; elsewhere they are as many as four bytes can tell, and none was lost.
-abbrev pub HeldAt : Option ℕ → Bool → List ℕ → Type 0
-HeldAt (Some size) lost bs = length bs ≡ size
-HeldAt None lost bs = (lost ≡ false) × (length bs < 2 ^ 32)
-
-abbrev pub FieldAt : ℕ → Field → Type 0
-FieldAt code null = Unit {0}
-FieldAt code (held lost bs) = HeldAt (size_of code) lost bs
-
 -- a row has one field for each column
 abbrev pub RowOf : List Column → List Field → Type 0
 RowOf [] [] = Unit {0}
@@ -70,9 +56,6 @@ RowOf (c ∷ cs) (f ∷ fs) = FieldAt c.code f × RowOf cs fs
 abbrev pub EventOf : List Column → Event → Type 0
 EventOf cs (row fs) = RowOf cs fs
 EventOf cs (failure n) = (1 ≤ n) × (n ≤ 65535)
-
-abbrev pub ColumnFits : Column → Type 0
-ColumnFits c = (c.code < 256) × (c.flags < 2 ^ 32)
 
 -- these bytes are a tape with these contents
 pub record TapeOf (bytes : List ℕ) (t : Contents) : Type 0 where

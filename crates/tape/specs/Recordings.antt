@@ -8,15 +8,17 @@ use Rattle.tape.specs.declared.recording.Columns.{Columns}
 use Rattle.tape.specs.declared.recording.Events.{Events}
 use Rattle.tape.specs.declared.recording.Fields.{Fields}
 use Rattle.mysql.specs.declared.bind.Column.{Column}
-use Rattle.tape.specs.Format.{Field, Event, Contents, TapeOf, NoTape}
+use Rattle.host.specs.Fields.{Field}
+use Rattle.tape.specs.Format.{Event, Contents, TapeOf, NoTape}
 use Rattle.tape.specs.Decode.{Taken, taken, broken}
 use Rattle.tape.specs.Views.{columns_in, fields_in, events_in}
 
+-- what lies in the bytes of columns and the bytes of so many events
+abbrev pub contents_in : (columns events : List ℕ) (count : ℕ) → Contents
+contents_in columns events count = record { columns = columns_in columns; events = events_in (columns_in columns) count events }
+
 abbrev pub contents : Recording → Contents
-contents r = record {
-  columns = columns_in r.columns.now;
-  events = events_in (columns_in r.columns.now) r.count r.events.now;
-}
+contents r = contents_in r.columns.now r.events.now r.count
 
 abbrev pub whole : Option Recording → Taken Contents
 whole None = broken

@@ -1,5 +1,5 @@
 -- What the code's views of a tape's bytes stand for.
-use Rattle.std.specs.Prelude.{ℕ, zero, suc, ◌+◌, ◌*◌, List, [], ◌∷◌, Some, None, Option}
+use Rattle.std.specs.Prelude.{◌≡◌, ℕ, zero, suc, ◌+◌, ◌*◌, ◌%◌, ◌^◌, List, [], ◌∷◌, Some, None, Option}
 use Rattle.std.specs.Borrow.{Bor}
 use Rattle.tape.specs.declared.field.Field.{Field as View}
 use Rattle.tape.specs.declared.field.Field.TheVariants as view
@@ -7,7 +7,8 @@ use Rattle.tape.specs.declared.event.Row.{Row}
 use Rattle.tape.specs.declared.event.Event.{Event as EventView}
 use Rattle.tape.specs.declared.event.Event.TheVariants as view_event
 use Rattle.mysql.specs.declared.bind.Column.{Column}
-use Rattle.tape.specs.Format.{Field, null, held, Event, row, failure}
+use Rattle.host.specs.Fields.{Field, null, held}
+use Rattle.tape.specs.Format.{Event, row, failure}
 use Rattle.tape.specs.Decode.{Taken, taken, broken, take_field, take_event}
 
 -- a field, by the bytes that it refers to
@@ -27,7 +28,7 @@ columns_in (a ∷ []) = []
 columns_in (a ∷ b ∷ []) = []
 columns_in (a ∷ b ∷ c ∷ []) = []
 columns_in (a ∷ b ∷ c ∷ d ∷ []) = []
-columns_in (a ∷ b ∷ c ∷ d ∷ e ∷ r) = record { code = a; flags = b + c * 256 + d * 65536 + e * 16777216 } ∷ columns_in r
+columns_in (a ∷ b ∷ c ∷ d ∷ e ∷ r) = record { code = a % 256; flags = (b + c * 256 + d * 65536 + e * 16777216) % 2 ^ 32 } ∷ columns_in r
 
 -- the fields at the front of bytes, as far as they stand
 abbrev pub fields_in : List Column → List ℕ → List Field
@@ -46,3 +47,12 @@ row_of r = fields_in (columns_in r.columns.now) r.bytes.now
 abbrev pub event_of : EventView → Event
 event_of (view_event.Row r) = row (row_of r)
 event_of (view_event.Failure n) = failure n
+
+-- a row that was taken has the bytes of the columns that it was taken with
+abbrev pub EventColumned : List ℕ → EventView → Type 0
+EventColumned columns (view_event.Row r) = r.columns.now ≡ columns
+EventColumned columns (view_event.Failure n) = Unit {0}
+
+abbrev pub Columned : List ℕ → Option (EventView × Bor (List ℕ)) → Type 0
+Columned columns None = Unit {0}
+Columned columns (Some p) = EventColumned columns p.0

@@ -9,3 +9,4 @@ mod walk;
 pub use event::{Event, Row};
 pub use field::Field;
 pub use recording::{Columns, Events, Fields, Recording};
+pub use walk::{take_column, take_event};

@@ -2,7 +2,7 @@
 ghost use Rattle.std.specs.Prelude.{◌≡◌, ◌^◌, ◌<◌, length};
 ghost use Rattle.tape.specs.Decode.{take_tape};
 ghost use Rattle.tape.specs.Views.{field_of, row_of, event_of};
-ghost use Rattle.tape.specs.Recordings.{whole, Opened, contents, Gives, columns_left, events_left, fields_left};
+ghost use Rattle.tape.specs.Recordings.{whole, Opened, contents_in, contents, Gives, columns_left, events_left, fields_left};
 ghost use Rattle.std.specs.Iterator.{at_most};
 
 use crate::event::{Event, Row};
@@ -56,6 +56,13 @@ impl<'a> Recording<'a> {
             Some(recording) => Ok(recording),
             None => Err(Fault::new(Refusal::BrokenTape)),
         }
+    }
+
+    // The bytes of its columns, those of its events, and how many events there are.
+    pub fn parts(&self) -> (&'a [u8], &'a [u8], u16)
+        ensures { contents self.now ≡ contents_in result.0.now result.1.now result.2 }
+    {
+        (self.columns, self.events, self.count)
     }
 
     // Its columns, one after the other.

@@ -2,7 +2,7 @@
 ghost use Rattle.std.specs.Prelude.{◌≡◌, ℕ};
 ghost use Rattle.std.specs.Option.{option_map};
 ghost use Rattle.tape.specs.Decode.{take2, take4, take_held, take_field, take_fields, take_column, take_event, take_events, left};
-ghost use Rattle.tape.specs.Views.{field_of, event_of, columns_in, off};
+ghost use Rattle.tape.specs.Views.{field_of, event_of, columns_in, off, Columned};
 
 use crate::event::{Event, Row};
 use crate::field::Field;
@@ -87,7 +87,8 @@ fn skip_fields<'a>(columns: &[u8], bytes: &'a [u8]) -> Option<&'a [u8]>
 
 // An event of a recording with these columns.
 pub fn take_event<'a>(columns: &'a [u8], bytes: &'a [u8]) -> Option<(Event<'a>, &'a [u8])>
-    ensures { take_event (columns_in columns.now) bytes.now ≡ off event_of result }
+    ensures taken { take_event (columns_in columns.now) bytes.now ≡ off event_of result }
+    ensures columned { Columned columns.now result }
 {
     match bytes {
         [0, fields @ ..] => {

@@ -1,6 +1,6 @@
 -- What a tape's calls come to.
 -- Assumes nothing.
-use Rattle.std.proofs.Common.{◌≡◌, ℕ, suc, ◌+◌, ◌-◌, ◌<◌, ◌≤◌, min, Bool, true, false, cond, ◌&&◌, eqb, ltb, List, [], ◌∷◌, map, length, get_or, take, drop, Some, None, Option, sym, refl, ap, ◌∙◌, ⊎_elim, arith, Bor}
+use Rattle.std.proofs.Common.{◌≡◌, ℕ, suc, ◌+◌, ◌-◌, ◌<◌, ◌≤◌, min, Bool, true, false, cond, ◌&&◌, eqb, ltb, List, [], ◌∷◌, map, length, get_or, take, drop, Some, None, is_some, Option, sym, refl, ap, ◌∙◌, ⊎_elim, arith, Bor}
 use Rattle.std.proofs.lemmas.List.{drop_more, drop_all, length-take}
 use Rattle.std.proofs.lemmas.Bool.{cases_Bool, cases_lt, and_parts, eqb-true, eq-eqb, lt-ltb, le-ltb}
 use Rattle.mysql.specs.declared.bind.Column.{Column}
@@ -8,13 +8,13 @@ use Rattle.host.specs.declared.records.BindRecord.{BindRecord}
 use Rattle.host.specs.declared.records.Report.{Report}
 use Rattle.host.specs.Meanings.{Event, failure, no_column}
 use Rattle.host.specs.Calls.{in_order, all_end_by, carried, bind_error, allows, record_of, no_record, with_error, part_error, PartRefused, FailureCame}
-use Rattle.recording.specs.declared.event.Event.{Event as EventView}
-use Rattle.recording.specs.declared.event.Event.TheVariants as view
-use Rattle.recording.specs.Decode.{take_event}
-use Rattle.recording.specs.Views.{columns_in, events_in, event_of, off}
-use Rattle.recording.proofs.Whole.{events_first, events_none}
-use Rattle.recording.proofs.Counted.{columns_count}
-use Rattle.tape_host.specs.declared.tape.Tape.{Tape}
+use Rattle.tape.specs.declared.event.Event.{Event as EventView}
+use Rattle.tape.specs.declared.event.Event.TheVariants as view
+use Rattle.tape.specs.Decode.{take_event}
+use Rattle.tape.specs.Views.{columns_in, events_in, event_of, off}
+use Rattle.tape.proofs.Whole.{events_first, events_none}
+use Rattle.tape.proofs.Counted.{columns_count}
+use Rattle.tape_host.specs.declared.tapes.Tape.{Tape}
 use Rattle.tape_host.specs.Tapes.{own_code, event_shown, first_columns, columns_of, current_of, places_of, is_bound, means}
 use Rattle.tape_host.specs.Wholes.{own_codes, Next}
 
@@ -82,7 +82,7 @@ module _ (t : Tape) where
 
   -- a column that is not bound
   pub part_refused : (column : ℕ) (bs : Bor (List ℕ)) (report : Report) (part : List ℕ) → t.current ≡ Some bs → record_of (means t) column ≡ None
-      → PartRefused (means t) (means (record { columns = t.columns; events = t.events; left = t.left; current = t.current; bound = t.bound; records = t.records; error = 2034 })) column report report part part
+      → PartRefused (means t) (means (record { columns = t.columns; events = t.events; left = t.left; current = t.current; records = t.records; error = 2034 })) column report report part part
   part_refused column bs report part cur none =
       let h : part_error (means t).current (record_of (means t) column) ≡ 2034 = ap (λ o. part_error (current_of cs o) (record_of (means t) column)) cur ∙ ap (part_error (current_of cs (Some bs))) none in
       record { error = λ e. omega arith; after = ap (λ n. with_error n (means t)) (sym h); same_report = refl; same_part = refl }
@@ -102,12 +102,12 @@ module _ (t : Tape) where
       record { bound = h; inside = p.0; reported = eqb-true reports (length cs) p.1 })
       (λ h.
       let k = sym (ap (λ (b : Bool). elim (cond b (Some (places_of t)) None) [ Some bs ↦ all_end_by arena bs && eqb reports (length cs) | None ↦ false ]) h) ∙ e in
-      let w : ◌≡◌ {A = ℕ} 0 1 = cc in absurd (omega arith))
+      cc)
       (cases_Bool (is_bound t))
 
   module _ (reports : List Report) (arena : List ℕ) (ok : allows (means t) (length arena) (length reports) ≡ true) (cut : List ℕ) (hc : cut ≡ take 320 t.columns.now) where
     pub ordered : in_order 0 (places_of t) ≡ true
-    ordered = (and_parts t.bound (in_order 0 (places_of t)) (allowed_says (length arena) (length reports) ok).bound).1
+    ordered = (and_parts (is_some t.records) (in_order 0 (places_of t)) (allowed_says (length arena) (length reports) ok).bound).1
 
     bound_is : (means t).bound ≡ Some (places_of t)
     bound_is = ap (λ (b : Bool). cond b (Some (places_of t)) None) (allowed_says (length arena) (length reports) ok).bound
@@ -121,7 +121,7 @@ module _ (t : Tape) where
 
       -- a failure is next
       pub failure_came : (number : ℕ) → number < 65536 → events_in (columns_in cut) t.left t.events.now ≡ event_of (view.Failure number) ∷ events_in (columns_in cut) (t.left - 1) rest.now
-          → FailureCame (means t) (means (record { columns = t.columns; events = rest; left = t.left - 1; current = None; bound = t.bound; records = t.records; error = number })) reports reports arena arena
+          → FailureCame (means t) (means (record { columns = t.columns; events = rest; left = t.left - 1; current = None; records = t.records; error = number })) reports reports arena arena
       failure_came number small h = record {
         allowed = ok;
         places = places_of t;

@@ -7,12 +7,12 @@ use Rattle.mysql.specs.declared.bind.Column.{Column}
 use Rattle.host.specs.declared.records.BindRecord.{BindRecord}
 use Rattle.host.specs.Meanings.{Meaning}
 use Rattle.host.specs.Calls.{no_record}
-use Rattle.recording.specs.Format.{Contents, TapeOf}
-use Rattle.recording.specs.Decode.{taken, broken, take_column}
-use Rattle.recording.specs.Views.{columns_in, events_in}
-use Rattle.recording.specs.Recordings.{contents_in}
-use Rattle.recording.proofs.Walked.{columns_first, columns_none}
-use Rattle.recording.proofs.Counted.{columns_front}
+use Rattle.tape.specs.Format.{Contents, TapeOf}
+use Rattle.tape.specs.Decode.{taken, broken, take_column}
+use Rattle.tape.specs.Views.{columns_in, events_in}
+use Rattle.tape.specs.Recordings.{contents_in}
+use Rattle.tape.proofs.Walked.{columns_first, columns_none}
+use Rattle.tape.proofs.Counted.{columns_front}
 use Rattle.tape_host.specs.Tapes.{own_code, event_shown, first_columns, Holds}
 use Rattle.tape_host.specs.Wholes.{own_codes}
 

@@ -8,7 +8,8 @@ use Rattle.host.specs.declared.records.BindRecord.{BindRecord}
 use Rattle.host.specs.declared.records.Report.{Report}
 use Rattle.host.specs.Fields.{Field, null, held}
 use Rattle.host.specs.Calls.{end, in_order, all_end_by, no_record, no_report, from_offset, truncates, Reported, PartReported, Stands, any_truncates}
-use Rattle.host.proofs.Placed.{put_inside, put_below, put_above, whole_reported, truncates_is, whole_stands, or_false}
+use Rattle.host.proofs.Placed.{put_inside, put_below, put_above, whole_reported, truncates_is, whole_stands}
+use Rattle.std.proofs.Math.Bool.{or-false}
 use Rattle.tape_host.specs.Tapes.{shown}
 use Rattle.tape_host.specs.Wholes.{Wrote}
 
@@ -55,7 +56,7 @@ module _ (fs : List Field) (ps : List BindRecord) (rs : List Report) (a₀ : Lis
     reported = λ i l. w.reported i (omega arith);
     stands = λ i l. w.stands i (omega arith);
     untouched = record { same_length = same; same_bytes = λ p out. w.outside p (λ i l from to. out (i, omega arith, from, to)) };
-    marked = w.marked ∙ ap (λ xs. z || any_truncates (shown fs) k xs) (drop_all k ps (omega arith)) ∙ or_false z;
+    marked = w.marked ∙ ap (λ xs. z || any_truncates (shown fs) k xs) (drop_all k ps (omega arith)) ∙ or-false z;
   }
 
   -- one column more

@@ -7,11 +7,11 @@ use Rattle.std.proofs.lemmas.Bool.{eqb-true, and_parts}
 use Rattle.std.proofs.lemmas.List.{length-take}
 use Rattle.host.specs.Fields.{Field, null, FieldAt}
 use Rattle.host.specs.Meanings.{Formed, RowFits, EventFits, CurrentFits, no_column}
-use Rattle.recording.specs.Format as recorded
-use Rattle.recording.specs.Views.{fields_in}
-use Rattle.recording.proofs.Fitting.{Fitting, fields_fit, events_fit, columns_fit}
-use Rattle.recording.proofs.Counted.{columns_count}
-use Rattle.tape_host.specs.declared.tape.Tape.{Tape}
+use Rattle.tape.specs.Format as recorded
+use Rattle.tape.specs.Views.{fields_in}
+use Rattle.tape.proofs.Fitting.{Fitting, fields_fit, events_fit, columns_fit}
+use Rattle.tape.proofs.Counted.{columns_count}
+use Rattle.tape_host.specs.declared.tapes.Tape.{Tape}
 use Rattle.tape_host.specs.Tapes.{shown, event_shown, columns_of, current_of, means}
 
 row_fits : (t : Tape) (fs : List Field) → ((k : ℕ) → FieldAt (get_or (columns_of t) k no_column).code (slice_index_or fs k null)) → RowFits (means t) (shown fs)

@@ -1,5 +1,5 @@
 -- What a tape means as a host: the columns of a recording, each carrying its own code only, alike at both signs, and its events.
-use Rattle.std.specs.Prelude.{◌≡◌, ℕ, min, Bool, cond, ◌&&◌, List, map, length, get_or, take, Some, None, Ok, Err, Option, Result, ◌==◌, nat_lt, slice_index_or}
+use Rattle.std.specs.Prelude.{◌≡◌, ℕ, min, Bool, cond, ◌&&◌, List, [], map, length, get_or, take, Some, None, is_some, Ok, Err, Option, Result, ◌==◌, nat_lt, slice_index_or}
 use Rattle.std.specs.Borrow.{Bor}
 use Rattle.mysql.specs.declared.bind.Column.{Column}
 use Rattle.mysql.specs.declared.fault.Fault.{Fault}
@@ -9,9 +9,9 @@ use Rattle.host.specs.declared.records.BindRecord.{BindRecord}
 use Rattle.host.specs.Fields.{Field, null}
 use Rattle.host.specs.Meanings.{Row, Event, row, failure, Meaning, no_column}
 use Rattle.host.specs.Calls.{in_order}
-use Rattle.recording.specs.Format as recorded
-use Rattle.recording.specs.Views.{columns_in, fields_in, events_in}
-use Rattle.tape_host.specs.declared.tape.Tape.{Tape}
+use Rattle.tape.specs.Format as recorded
+use Rattle.tape.specs.Views.{columns_in, fields_in, events_in}
+use Rattle.tape_host.specs.declared.tapes.Tape.{Tape}
 
 -- a column carries its own code
 abbrev pub own_code : List Column → (column code : ℕ) → Bool
@@ -36,12 +36,17 @@ abbrev pub current_of : List Column → Option (Bor (List ℕ)) → Option Row
 current_of cs None = None
 current_of cs (Some bs) = Some (shown (fields_in cs bs.now))
 
+-- the records of the columns, at the front of what is bound
+abbrev pub front : ℕ → Option (List BindRecord) → List BindRecord
+front n None = []
+front n (Some records) = take n records
+
 -- where the columns are bound to; places that are out of order were never bound
 abbrev pub places_of : Tape → List BindRecord
-places_of t = take (length (columns_of t)) t.records
+places_of t = front (length (columns_of t)) t.records
 
 abbrev pub is_bound : Tape → Bool
-is_bound t = t.bound && in_order 0 (places_of t)
+is_bound t = is_some t.records && in_order 0 (places_of t)
 
 abbrev pub means : Tape → Meaning
 means t = record {

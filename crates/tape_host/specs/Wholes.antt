@@ -6,8 +6,8 @@ use Rattle.host.specs.declared.records.BindRecord.{BindRecord}
 use Rattle.host.specs.declared.records.Report.{Report}
 use Rattle.host.specs.Fields.{Field, null}
 use Rattle.host.specs.Calls.{no_record, no_report, Reported, Stands, Untouched, any_truncates}
-use Rattle.recording.specs.declared.event.Event.{Event as EventView}
-use Rattle.recording.specs.Views.{events_in, event_of}
+use Rattle.tape.specs.declared.event.Event.{Event as EventView}
+use Rattle.tape.specs.Views.{events_in, event_of}
 use Rattle.tape_host.specs.Tapes.{shown}
 
 -- every field stands in its place and is reported, and no byte outside the places changes

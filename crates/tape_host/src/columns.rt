@@ -1,20 +1,18 @@
 // The columns of a tape, found in their bytes.
 ghost use Rattle.std.specs.Prelude.{◌≡◌, true, false, length, take, slice_index_or};
 ghost use Rattle.host.specs.Meanings.{no_column};
-ghost use Rattle.recording.specs.Views.{columns_in};
+ghost use Rattle.tape.specs.Views.{columns_in};
 ghost use Rattle.tape_host.specs.Wholes.{own_codes};
 
-use host::BindRecord;
+use host::{BindRecord, PAST_COLUMN};
 use mysql::Column;
-use recording::take_column;
+use tape::take_column;
 
 // How many bytes a column takes.
 const COLUMN_SIZE: usize = 5;
 
 // The bytes of the most columns that a tape has.
 const COLUMNS_SIZE: usize = 320;
-
-const NO_COLUMN: Column = Column { code: 6, flags: 0 };
 
 // The bytes of at most 64 columns.
 pub(crate) fn first_columns(columns: &[u8]) -> &[u8]
@@ -38,11 +36,11 @@ pub(crate) fn column_at(columns: &[u8], i: usize) -> Column
     ensures { result ≡ slice_index_or (columns_in columns.now) i no_column }
 {
     if i >= count_columns(columns) {
-        return NO_COLUMN;
+        return PAST_COLUMN;
     }
     match take_column(&columns[COLUMN_SIZE * i..]) {
         Some((column, _)) => column,
-        None => NO_COLUMN,
+        None => PAST_COLUMN,
     }
 }
 

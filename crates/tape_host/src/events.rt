@@ -1,8 +1,8 @@
 // The events of a tape that are to come.
-ghost use Rattle.recording.specs.Views.{columns_in, Columned};
+ghost use Rattle.tape.specs.Views.{columns_in, Columned};
 ghost use Rattle.tape_host.specs.Wholes.{Next};
 
-use recording::{Event, take_event};
+use tape::{Event, take_event};
 
 // The next of so many events, and the bytes after it.
 pub(crate) fn next_event<'a>(

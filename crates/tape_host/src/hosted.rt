@@ -1,24 +1,30 @@
 // A tape is a host.
+ghost use Rattle.std.specs.Prelude.{◌≡◌, false};
+ghost use Rattle.host.specs.Calls.{number_of};
 ghost use Rattle.tape_host.specs.Tapes.{means};
 ghost use Rattle.tape_host.specs.Formeds.{formed};
 
 use crate::columns::{asks_own_codes, column_at, count_columns, first_columns};
 use crate::events::next_event;
 use crate::places::{all_end_by, are_in_order, copy_records};
-use crate::tape::Tape;
+use crate::tapes::Tape;
 use crate::write::{field_at, write_field, write_row};
-use host::{BindRecord, Fetched, Host, Report};
+use host::{BindRecord, ClientError, Fetched, Host, Report};
 use mysql::Column;
-use recording::{Event, Row};
+use tape::{Event, Row};
 
-// The error numbers of the client library.
-const INVALID_PARAMETER: u16 = 2034;
+impl Tape<'_> {
+    // Refuses a call, for this reason.
+    fn refuse(&mut self, why: ClientError) -> bool
+        ensures refused { result ≡ false }
+        ensures after { self.new ≡ record self.old { error = number_of why } }
+    {
+        self.error = why as u16;
+        false
+    }
+}
 
-const UNSUPPORTED_TYPE: u16 = 2036;
-
-const NO_DATA: u16 = 2051;
-
-impl<'a> Host for Tape<'a> {
+impl Host for Tape<'_> {
     ghost meaning = { means };
 
     ghost formed = { formed };
@@ -42,22 +48,19 @@ impl<'a> Host for Tape<'a> {
     fn bind(&mut self, records: &[BindRecord]) -> bool {
         let columns = first_columns(self.columns);
         if records.len() != count_columns(columns) || !are_in_order(records) {
-            self.error = INVALID_PARAMETER;
-            return false;
+            return self.refuse(ClientError::InvalidParameter);
         }
         if !asks_own_codes(columns, records) {
-            self.error = UNSUPPORTED_TYPE;
-            return false;
+            return self.refuse(ClientError::UnsupportedType);
         }
-        self.records = copy_records(records);
-        self.bound = true;
+        self.records = Some(copy_records(records));
         self.error = 0;
         true
     }
 
     fn fetch(&mut self, arena: &mut [u8], reports: &mut [Report]) -> Fetched {
         if !self.can_fetch(arena.len(), reports.len()) {
-            self.error = INVALID_PARAMETER;
+            self.refuse(ClientError::InvalidParameter);
             return Fetched::Failed;
         }
         let columns = first_columns(self.columns);
@@ -95,12 +98,10 @@ impl<'a> Host for Tape<'a> {
         report: &mut Report,
     ) -> bool {
         let Some(bytes) = self.current else {
-            self.error = NO_DATA;
-            return false;
+            return self.refuse(ClientError::NoData);
         };
         if column >= self.places().len() || !self.is_bound() {
-            self.error = INVALID_PARAMETER;
-            return false;
+            return self.refuse(ClientError::InvalidParameter);
         }
         self.error = 0;
         let columns = first_columns(self.columns);
@@ -112,7 +113,7 @@ impl<'a> Host for Tape<'a> {
     fn free(&mut self) {
         self.left = 0;
         self.current = None;
-        self.bound = false;
+        self.records = None;
         self.error = 0;
     }
 }

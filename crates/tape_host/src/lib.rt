@@ -6,7 +6,7 @@ mod events;
 mod hosted;
 mod open;
 mod places;
-mod tape;
+mod tapes;
 mod write;
 
-pub use tape::Tape;
+pub use tapes::Tape;

@@ -1,48 +1,46 @@
 // How a tape is opened, and what is bound to it.
-ghost use Rattle.std.specs.Prelude.{◌≡◌, length};
+ghost use Rattle.std.specs.Prelude.{◌≡◌, true, length, is_some};
 ghost use Rattle.tape_host.specs.Tapes.{columns_of, places_of, is_bound, Opened};
 
 use crate::columns::{count_columns, first_columns};
-use crate::places::{NO_RECORD, are_in_order};
-use crate::tape::Tape;
+use crate::places::are_in_order;
+use crate::tapes::Tape;
 use host::BindRecord;
 use mysql::Fault;
-use recording::Recording;
+use tape::Recording;
 
 impl<'a> Tape<'a> {
     // Takes bytes that are a tape, and refuses all others.
     pub fn new(bytes: &'a [u8]) -> Result<Tape<'a>, Fault>
         ensures { Opened bytes.now result }
     {
-        match Recording::new(bytes) {
-            Ok(recording) => {
-                let (columns, events, left) = recording.parts();
-                Ok(Tape {
-                    columns,
-                    events,
-                    left,
-                    current: None,
-                    bound: false,
-                    records: [NO_RECORD; 64],
-                    error: 0,
-                })
-            }
-            Err(fault) => Err(fault),
-        }
+        let recording = Recording::new(bytes)?;
+        let (columns, events, left) = recording.parts();
+        Ok(Tape {
+            columns,
+            events,
+            left,
+            current: None,
+            records: None,
+            error: 0,
+        })
     }
 
-    // The records of its columns.
+    // The records of its columns; none where there is no bind list.
     pub(crate) fn places(&self) -> &[BindRecord]
         ensures are { result.now ≡ places_of self.now }
-        ensures counted { length result.now ≡ length (columns_of self.now) }
+        ensures counted { is_some self.now.records ≡ true → length result.now ≡ length (columns_of self.now) }
     {
-        &self.records[..count_columns(first_columns(self.columns))]
+        match &self.records {
+            Some(records) => &records[..count_columns(first_columns(self.columns))],
+            None => &[],
+        }
     }
 
     // Whether there is a bind list. Records that are out of order are none, though `bind` never leaves such.
     pub(crate) fn is_bound(&self) -> bool
         ensures { result ≡ is_bound self.now }
     {
-        self.bound && are_in_order(self.places())
+        self.records.is_some() && are_in_order(self.places())
     }
 }

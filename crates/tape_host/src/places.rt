@@ -4,13 +4,6 @@ ghost use Rattle.host.specs.Calls.{end, in_order, all_end_by};
 
 use host::BindRecord;
 
-pub(crate) const NO_RECORD: BindRecord = BindRecord {
-    code: 0,
-    unsigned: false,
-    start: 0,
-    capacity: 0,
-};
-
 fn end_of(place: BindRecord) -> u128
     ensures { result ≡ end place }
 {
@@ -35,12 +28,9 @@ pub(crate) fn are_in_order(records: &[BindRecord]) -> bool
 pub(crate) fn all_end_by(arena: usize, records: &[BindRecord]) -> bool
     ensures { result ≡ all_end_by arena records.now }
 {
-    for record in records {
-        if end_of(*record) > arena as u128 {
-            return false;
-        }
-    }
-    true
+    records
+        .iter()
+        .all(|record| end_of(*record) <= arena as u128)
 }
 
 // Records at the front of an array.
@@ -48,9 +38,7 @@ pub(crate) fn copy_records(records: &[BindRecord]) -> [BindRecord; 64]
     requires { length records.now ≤ 64 }
     ensures { take (length records.now) result ≡ records.now }
 {
-    let mut copy = [NO_RECORD; 64];
-    for i in 0..records.len() {
-        copy[i] = records[i];
-    }
+    let mut copy = [BindRecord::default(); 64];
+    copy[..records.len()].copy_from_slice(records);
     copy
 }

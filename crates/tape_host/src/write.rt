@@ -2,20 +2,19 @@
 ghost use Rattle.std.specs.Prelude.{◌≡◌, ℕ, ◌+◌, ◌<◌, min, true, false, length, drop, slice_index, slice_index_or};
 ghost use Rattle.host.specs.Fields.{null};
 ghost use Rattle.host.specs.Calls.{from_offset, PartReported, Stands, in_order, all_end_by};
-ghost use Rattle.recording.specs.Views.{field_of, row_of};
-ghost use Rattle.recording.specs.Recordings.{fields_left};
+ghost use Rattle.tape.specs.Views.{field_of, row_of};
+ghost use Rattle.tape.specs.Recordings.{fields_left};
 ghost use Rattle.tape_host.specs.Wholes.{Wrote};
 
 use host::{BindRecord, Report};
-use recording::{Field, Fields, Row};
+use tape::{Field, Fields, Row};
 
 // Copies bytes to a part's front, as many as fit.
 fn copy_front(bytes: &[u8], part: &mut [u8])
     ensures { (j : ℕ) → j < min (length part.old) (length bytes.now) → slice_index part.new j ≡ slice_index bytes.now j }
 {
-    for j in 0..bytes.len().min(part.len()) {
-        part[j] = bytes[j];
-    }
+    let count = bytes.len().min(part.len());
+    part[..count].copy_from_slice(&bytes[..count]);
 }
 
 // The bytes from an offset on; past their end there are none.
@@ -32,9 +31,8 @@ pub(crate) fn write_field(field: Field, offset: usize, part: &mut [u8]) -> Repor
 {
     match field {
         Field::Null => Report {
-            length: 0,
             is_null: true,
-            is_truncated: false,
+            ..Report::default()
         },
         Field::Held { bytes, lost } => {
             let rest = after(bytes, offset);
@@ -53,21 +51,14 @@ fn next_field<'a>(fields: &mut Fields<'a>) -> Field<'a>
     ensures first { field_of result ≡ slice_index_or (fields_left fields.old) 0 null }
     ensures left { fields_left fields.new ≡ drop 1 (fields_left fields.old) }
 {
-    match fields.next() {
-        Some(field) => field,
-        None => Field::Null,
-    }
+    fields.next().unwrap_or(Field::Null)
 }
 
 // A field of a row.
 pub(crate) fn field_at<'a>(row: Row<'a>, column: usize) -> Field<'a>
     ensures { field_of result ≡ slice_index_or (row_of row.entry) column null }
 {
-    let mut fields = row.fields();
-    for _ in 0..column {
-        next_field(&mut fields);
-    }
-    next_field(&mut fields)
+    row.fields().nth(column).unwrap_or(Field::Null)
 }
 
 // Writes the fields of a row to their places, with a report for each; says whether anything of it is truncated.
@@ -84,11 +75,10 @@ pub(crate) fn write_row(
 {
     let mut fields = row.fields();
     let mut truncated = false;
-    for i in 0..places.len() {
-        let start = places[i].start;
-        let end = start + places[i].capacity;
+    for (i, place) in places.iter().enumerate() {
+        let end = place.start + place.capacity;
         let field = next_field(&mut fields);
-        let report = write_field(field, 0, &mut arena[start..end]);
+        let report = write_field(field, 0, &mut arena[place.start..end]);
         truncated |= report.is_truncated;
         reports[i] = report;
     }

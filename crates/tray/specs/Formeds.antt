@@ -1,4 +1,5 @@
 -- What a tray means keeps to what every host's meaning keeps to.
+-- The proof stands in specs/, since the host's ghost member names it, and such a member may name nothing of proofs/.
 use Rattle.std.specs.Prelude.{◌≡◌, ℕ, zero, suc, ◌+◌, ◌%◌, Bool, true, false, cond, length, Some, None, Option, ◌==◌, refl}
 use Rattle.std.proofs.Common.{sym, subst, arith}
 use Rattle.std.specs.List.{AllByRecursion}

@@ -1,22 +1,37 @@
 // A tray is a host.
-ghost use Rattle.std.specs.Prelude.{◌≡◌};
-ghost use Rattle.tray.specs.Trays.{means};
+ghost use Rattle.std.specs.Prelude.{◌≡◌, false, is_some, IfSome};
+ghost use Rattle.host.specs.Calls.{allows, number_of};
+ghost use Rattle.tray.specs.Trays.{Inside, means};
 ghost use Rattle.tray.specs.Formeds.{formed};
 
 use crate::rows::write_field;
 use crate::tray::Tray;
-use host::{BindRecord, Fetched, Host, Report};
+use host::{BindRecord, ClientError, Fetched, Host, PAST_COLUMN, Report};
 use mysql::Column;
-
-// The error numbers of the client library.
-const INVALID_PARAMETER: u16 = 2034;
-
-const UNSUPPORTED_TYPE: u16 = 2036;
-
-const NO_DATA: u16 = 2051;
 
 // The code of the one column.
 const CODE: u8 = 253;
+
+impl Tray {
+    // The place of the column, where a fetch into an arena of this length, with this many reports, is allowed.
+    fn place_in(&self, arena: usize, reports: usize) -> Option<BindRecord>
+        ensures allowed { is_some result ≡ allows (means self.now) arena reports }
+        ensures inside { IfSome result (Inside self.now.place arena reports) }
+    {
+        self.place.filter(|place| {
+            place.start <= arena && place.capacity <= arena - place.start && reports == 1
+        })
+    }
+
+    // Refuses a call, for this reason.
+    fn refuse(&mut self, why: ClientError) -> bool
+        ensures refused { result ≡ false }
+        ensures after { self.new ≡ record self.old { error = number_of why } }
+    {
+        self.error = why as u16;
+        false
+    }
+}
 
 impl Host for Tray {
     ghost meaning = { means };
@@ -34,7 +49,7 @@ impl Host for Tray {
                 flags: 0,
             }
         } else {
-            Column { code: 6, flags: 0 }
+            PAST_COLUMN
         }
     }
 
@@ -43,42 +58,36 @@ impl Host for Tray {
     }
 
     fn can_fetch(&self, arena: usize, reports: usize) -> bool {
-        let place = self.record;
-        self.bound && place.start <= arena && place.capacity <= arena - place.start && reports == 1
+        self.place_in(arena, reports).is_some()
     }
 
     fn bind(&mut self, records: &[BindRecord]) -> bool {
         let [record] = records else {
-            self.error = INVALID_PARAMETER;
-            return false;
+            return self.refuse(ClientError::InvalidParameter);
         };
         if record.code != CODE {
-            self.error = UNSUPPORTED_TYPE;
-            return false;
+            return self.refuse(ClientError::UnsupportedType);
         }
-        self.record = *record;
-        self.bound = true;
+        self.place = Some(*record);
         self.error = 0;
         true
     }
 
     fn fetch(&mut self, arena: &mut [u8], reports: &mut [Report]) -> Fetched {
-        if !self.can_fetch(arena.len(), reports.len()) {
-            self.error = INVALID_PARAMETER;
+        let Some(place) = self.place_in(arena.len(), reports.len()) else {
+            self.refuse(ClientError::InvalidParameter);
             return Fetched::Failed;
-        }
+        };
         self.error = 0;
-        let left = self.left.min(self.rows);
-        if left == 0 {
+        if self.taken >= self.rows {
             self.current = None;
             return Fetched::NoData;
         }
-        let k = usize::from(self.rows - left) + 1;
-        self.left = left - 1;
+        let k = usize::from(self.taken) + 1;
+        self.taken += 1;
         self.current = Some(k);
-        let start = self.record.start;
-        let end = start + self.record.capacity;
-        let report = write_field(k, 0, &mut arena[start..end]);
+        let end = place.start + place.capacity;
+        let report = write_field(k, 0, &mut arena[place.start..end]);
         reports[0] = report;
         if report.is_truncated {
             Fetched::Truncated
@@ -95,12 +104,10 @@ impl Host for Tray {
         report: &mut Report,
     ) -> bool {
         let Some(k) = self.current else {
-            self.error = NO_DATA;
-            return false;
+            return self.refuse(ClientError::NoData);
         };
-        if !self.bound || column != 0 {
-            self.error = INVALID_PARAMETER;
-            return false;
+        if self.place.is_none() || column != 0 {
+            return self.refuse(ClientError::InvalidParameter);
         }
         self.error = 0;
         *report = write_field(k, offset, part);
@@ -108,9 +115,9 @@ impl Host for Tray {
     }
 
     fn free(&mut self) {
-        self.left = 0;
+        self.taken = self.rows;
         self.current = None;
-        self.bound = false;
+        self.place = None;
         self.error = 0;
     }
 }

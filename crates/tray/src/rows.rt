@@ -1,18 +1,11 @@
 // The fields of a tray's rows.
-ghost use Rattle.std.specs.Prelude.{◌≡◌, ℕ, ◌+◌, ◌*◌, ◌%◌, ◌<◌, ◌≤◌, min, true, false, length, ◌==◌, slice_index};
+ghost use Rattle.std.specs.Prelude.{◌≡◌, ℕ, ◌+◌, ◌*◌, ◌%◌, ◌<◌, ◌≤◌, min, true, false, length, ◌==◌, slice_index, EachIndex};
 ghost use Rattle.host.specs.Calls.{from_offset, PartReported, Stands};
 ghost use Rattle.tray.specs.Rows.{size_of_row, field_of_row};
 ghost use Rattle.tray.specs.Trays.{means, Fresh};
 
 use crate::tray::Tray;
-use host::{BindRecord, Report};
-
-const NO_RECORD: BindRecord = BindRecord {
-    code: 0,
-    unsigned: false,
-    start: 0,
-    capacity: 0,
-};
+use host::Report;
 
 impl Tray {
     // A tray of so many rows.
@@ -21,10 +14,9 @@ impl Tray {
     {
         Tray {
             rows,
-            left: rows,
+            taken: 0,
             current: None,
-            bound: false,
-            record: NO_RECORD,
+            place: None,
             error: 0,
         }
     }
@@ -44,14 +36,12 @@ fn row_size(k: usize) -> usize
     37 * (k % 200) % 200
 }
 
-// Writes bytes of a row, from its byte `offset` on, to the part's front, as many as fit.
-fn write_bytes(k: usize, offset: usize, count: usize, part: &mut [u8])
-    requires { count ≤ length part.old }
-    ensures written { (j : ℕ) → j < count → slice_index part.new j ≡ (k + (offset + j)) % 256 }
-    ensures untouched { (p : ℕ) → count ≤ p → slice_index part.new p ≡ slice_index part.old p }
+// Writes the bytes of a row, from its byte `offset` on.
+fn write_bytes(k: usize, offset: usize, part: &mut [u8])
+    ensures { EachIndex part.new (λ j. slice_index part.new j ≡ (k + (offset + j)) % 256) }
 {
-    for j in 0..count {
-        part[j] = ((k % 256 + (offset % 256 + j % 256)) % 256) as u8;
+    for (j, byte) in part.iter_mut().enumerate() {
+        *byte = ((k % 256 + (offset % 256 + j % 256)) % 256) as u8;
     }
 }
 
@@ -62,15 +52,14 @@ pub(crate) fn write_field(k: usize, offset: usize, part: &mut [u8]) -> Report
 {
     if is_null_row(k) {
         return Report {
-            length: 0,
             is_null: true,
-            is_truncated: false,
+            ..Report::default()
         };
     }
     let size = row_size(k);
     let rest = size.saturating_sub(offset);
     let count = rest.min(part.len());
-    write_bytes(k, offset, count, part);
+    write_bytes(k, offset, &mut part[..count]);
     Report {
         length: size as u64,
         is_null: false,

@@ -3,12 +3,12 @@ use host::BindRecord;
 
 #[derive(Clone, Copy)]
 pub struct Tray {
-    // how many rows there are, and how many of them are to come
+    // how many rows there are, and how many of them were taken off
     pub(crate) rows: u16,
-    pub(crate) left: u16,
+    pub(crate) taken: u16,
     // the number of the current row
     pub(crate) current: Option<usize>,
-    pub(crate) bound: bool,
-    pub(crate) record: BindRecord,
+    // the place that the column is bound to
+    pub(crate) place: Option<BindRecord>,
     pub(crate) error: u16,
 }

@@ -1,25 +1,17 @@
 use Rattle.std.proofs.Common.{[], length, sym, ap, ◌∙◌, subst}
 use Rattle.host.specs.Meanings.{Meaning}
 use Rattle.tally.specs.declared.totals.Totals.{Totals}
-use Rattle.tally.proofs.Summed.{Going, going_row, going_failure, still_allowed, failed_came, fewer}
+use Rattle.tally.proofs.Summed.{Going, row_fetched, going_row, going_failure, still_allowed, failed_came, fewer}
 use Rattle.tally.proofs.count.count_events.Goals as goal
 
 pub loop-reports-preserved-in-Row : goal.loop-reports-preserved-in-Row
 loop-reports-preserved-in-Row g c =
     let m = g.H.Host.meaning c.loop-reports.host in
     let m₀ = g.H.Host.meaning c.args.host.now in
-    let w = c.in-Row.ensures in
-    subst (λ (t : Totals). Going t (g.H.Host.meaning c.fetch.new.self) m₀) (sym c.add_row-totals.ensures)
-    (going_row c.loop-reports.totals m m₀ c.loop-reports.invariant (g.H.Host.meaning c.fetch.new.self) w.fields w.rest w.places c.fetch.new.reports w.next w.bound w.after
-    (w.as_many_reports ∙ c.loop-reports.auto.reports ∙ c.requires.reported) w.reported)
-
-pub loop-reports-preserved-in-Truncated : goal.loop-reports-preserved-in-Truncated
-loop-reports-preserved-in-Truncated g c =
-    let m = g.H.Host.meaning c.loop-reports.host in
-    let m₀ = g.H.Host.meaning c.args.host.now in
-    let w = c.in-Truncated.ensures in
-    subst (λ (t : Totals). Going t (g.H.Host.meaning c.fetch.new.self) m₀) (sym c.add_row-totals-in-Truncated.ensures)
-    (going_row c.loop-reports.totals m m₀ c.loop-reports.invariant (g.H.Host.meaning c.fetch.new.self) w.fields w.rest w.places c.fetch.new.reports w.next w.bound w.after
+    let m' = g.H.Host.meaning c.fetch.new.self in
+    let w = (row_fetched m m' _ _ _ _ c.in-Row.is c.fetch.ensures).1 in
+    subst (λ (t : Totals). Going t m' m₀) (sym c.add_row-totals.ensures)
+    (going_row c.loop-reports.totals m m₀ c.loop-reports.invariant m' w.fields w.rest w.places c.fetch.new.reports w.next w.bound w.after
     (w.as_many_reports ∙ c.loop-reports.auto.reports ∙ c.requires.reported) w.reported)
 
 pub loop-reports-smaller : goal.loop-reports-smaller

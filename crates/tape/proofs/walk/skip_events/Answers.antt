@@ -16,7 +16,7 @@ returns-in_err-next c =
     let m = c.args.count - (c.loop.counter + 1) in
     let k : c.args.count - c.loop.counter ≡ suc m = omega arith in
     rw c.from_residual.ensures
-    (c.loop.invariant ∙ ap (λ (n : ℕ). left (take_events cs n bs)) k ∙ events_stop cs m bs c.in_err-next.ensures)
+    (c.loop.invariant ∙ ap (λ (n : ℕ). left (take_events cs n bs)) k ∙ events_stop cs m bs c.in_err-next.ensures.taken)
 
 pub loop-preserved : goal.loop-preserved
 loop-preserved c =
@@ -24,7 +24,7 @@ loop-preserved c =
     let bs = c.loop.rest.now in
     let m = c.args.count - (c.loop.counter + 1) in
     let k : c.args.count - c.loop.counter ≡ suc m = omega arith in
-    c.loop.invariant ∙ ap (λ (n : ℕ). left (take_events cs n bs)) k ∙ events_more cs m bs _ c.in_ok-next.next.now c.in_ok-next.ensures
+    c.loop.invariant ∙ ap (λ (n : ℕ). left (take_events cs n bs)) k ∙ events_more cs m bs _ c.in_ok-next.next.now c.in_ok-next.ensures.taken
 
 pub returns : goal.returns
 returns c =

@@ -5,5 +5,5 @@ use Rattle.tape.proofs.walk.take_column.Goals as goal
 
 pub returns : goal.returns
 returns c =
-    column_code c.args.bytes.now (search rules)
+    column_code c.args.bytes.now (search rules) (search rules)
     ∙ ap (λ t. next t (λ n r. taken (record { code = get_or c.args.bytes.now 0 0; flags = n }) r)) c.in_ok-flags.ensures

@@ -1,5 +1,5 @@
 use Rattle.std.proofs.Common.{sym, ◌∙◌, arith, rules}
-use Rattle.recording.specs.Views.{columns_in}
+use Rattle.tape.specs.Views.{columns_in}
 use Rattle.tape_host.proofs.Columned.{codes_stop, codes_differ, codes_more, codes_end}
 use Rattle.tape_host.proofs.columns.asks_own_codes.Goals as goal
 

@@ -1,5 +1,5 @@
 use Rattle.std.proofs.Common.{◌≡◌, drop}
-use Rattle.recording.specs.Views.{columns_in}
+use Rattle.tape.specs.Views.{columns_in}
 use Rattle.tape_host.specs.Wholes.{own_codes}
 use Rattle.tape_host.proofs.columns.asks_own_codes.Given as goal
 

@@ -1,9 +1,9 @@
 use Rattle.std.proofs.Common.{◌*◌, sym, ap, ◌∙◌, arith}
 use Rattle.std.proofs.lemmas.List.{get_or_past, take_rest}
 use Rattle.host.specs.Meanings.{no_column}
-use Rattle.recording.specs.Decode.{take_column}
-use Rattle.recording.specs.Views.{columns_in}
-use Rattle.recording.proofs.Counted.{columns_count, column_at, column_none}
+use Rattle.tape.specs.Decode.{take_column}
+use Rattle.tape.specs.Views.{columns_in}
+use Rattle.tape.proofs.Counted.{columns_count, column_at, column_none}
 use Rattle.tape_host.proofs.columns.column_at.Goals as goal
 
 pub returns-then-i-count_columns : goal.returns-then-i-count_columns

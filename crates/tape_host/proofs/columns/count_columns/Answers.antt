@@ -1,5 +1,5 @@
 use Rattle.std.proofs.Common.{sym}
-use Rattle.recording.proofs.Counted.{columns_count}
+use Rattle.tape.proofs.Counted.{columns_count}
 use Rattle.tape_host.proofs.columns.count_columns.Goals as goal
 
 pub returns : goal.returns

@@ -1,4 +1,4 @@
-use Rattle.recording.specs.Views.{columns_in}
+use Rattle.tape.specs.Views.{columns_in}
 use Rattle.tape_host.proofs.Called.{next_is}
 use Rattle.tape_host.proofs.events.next_event.Goals as goal
 

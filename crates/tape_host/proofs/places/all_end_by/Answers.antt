@@ -1,15 +1,11 @@
-use Rattle.std.proofs.Common.{sym, ap, ◌∙◌, arith, rules}
-use Rattle.std.proofs.lemmas.List.{drop_all}
-use Rattle.host.specs.Calls.{all_end_by}
-use Rattle.tape_host.proofs.Copied.{ends_more, ends_past}
+use Rattle.std.proofs.Common.{◌∙◌, leb, rules, tests}
+use Rattle.std.proofs.lemmas.Iterator.{YieldsList-from_slice}
+use Rattle.std.proofs.lemmas.Iterator.Search.{all_from_yields_List}
+use Rattle.host.specs.Calls.{end}
+use Rattle.tape_host.proofs.Copied.{ends_all}
 use Rattle.tape_host.proofs.places.all_end_by.Goals as goal
 
-pub returns-then-end_of-arena : goal.returns-then-end_of-arena
-returns-then-end_of-arena c =
-    sym (c.loop-record.invariant ∙ ends_past c.args.records.now c.loop-record.record-index (omega arith) c.args.arena (search rules))
-
-pub loop-record-preserved : goal.loop-record-preserved
-loop-record-preserved c = c.loop-record.invariant ∙ ends_more c.args.records.now c.loop-record.record-index (omega arith) c.args.arena (search rules)
-
 pub returns : goal.returns
-returns c = sym (c.loop-record.invariant ∙ ap (all_end_by c.args.arena) (drop_all c.loop-record.record-index c.args.records.now (omega arith)))
+returns c =
+    all_from_yields_List (λ b. leb (end b) c.args.arena) _ _ c.all.result c.all.ensures.ran (YieldsList-from_slice c.args.records.now cc) (λ x b q k. search (rules, tests))
+    ∙ ends_all c.args.arena c.args.records.now

@@ -1,21 +1,14 @@
-use Rattle.std.proofs.Common.{◌≡◌, get_or, refl, ap, ◌∙◌, arith}
+use Rattle.std.proofs.Common.{length, get_or, ap, ◌∙◌}
+use Rattle.std.proofs.lemmas.Iterator.Consumers.{nth_from_yields_List, YieldsList-from_shown}
 use Rattle.host.specs.Fields.{null}
-use Rattle.recording.specs.Recordings.{fields_left}
-use Rattle.tape_host.proofs.Copied.{left_more, left_first}
+use Rattle.tape.specs.Views.{field_of}
+use Rattle.tape.specs.Recordings.{Gives, fields_left}
+use Rattle.tape_host.proofs.Copied.{field_or_null}
 use Rattle.tape_host.proofs.write.field_at.Goals as goal
-
-pub loop-init : goal.loop-init
-loop-init c = refl
-
-pub loop-preserved : goal.loop-preserved
-loop-preserved c =
-    left_more (fields_left c.fields-fields.result) (fields_left c.loop.fields) c.loop.counter c.loop.invariant (fields_left c.next_field.new.fields) c.next_field.ensures.left
 
 pub returns : goal.returns
 returns c =
-    let fs = fields_left c.fields-fields.result in
-    let e : c.loop.counter ≡ c.args.column = omega arith in
-    c.next_field-2.ensures.first
-    ∙ left_first fs (fields_left c.loop.fields) c.loop.counter c.loop.invariant null
-    ∙ ap (λ k. get_or fs k null) e
-    ∙ ap (λ xs. get_or xs c.args.column null) c.fields-fields.ensures.all
+    let shown = YieldsList-from_shown (Gives fields_left field_of) field_of fields_left (λ s t h. ap length h.0) (λ s x t h. h) c.fields.result in
+    ap field_of c.unwrap_or.ensures
+    ∙ field_or_null c.nth.result (fields_left c.fields.result) c.args.column (nth_from_yields_List c.nth.result c.nth.new.self c.args.column c.nth.ensures.ran shown)
+    ∙ ap (λ xs. get_or xs c.args.column null) c.fields.ensures.all

@@ -1,8 +1,8 @@
 use Rattle.std.proofs.Common.{◌≡◌, ◌+◌, ◌-◌, List, length, get_or, ◌∙◌, subst, arith, rules}
 use Rattle.host.specs.Fields.{Field, null}
 use Rattle.host.specs.Calls.{no_record}
-use Rattle.recording.specs.Views.{field_of}
-use Rattle.recording.specs.Recordings.{fields_left}
+use Rattle.tape.specs.Views.{field_of}
+use Rattle.tape.specs.Recordings.{fields_left}
 use Rattle.tape_host.specs.Wholes.{Wrote}
 use Rattle.tape_host.proofs.Copied.{left_more, left_first}
 use Rattle.tape_host.proofs.Rowed.{inside_at, more_written, all_written}

@@ -1,5 +1,5 @@
 use Rattle.std.proofs.Common.{◌≡◌, drop}
-use Rattle.recording.specs.Recordings.{fields_left}
+use Rattle.tape.specs.Recordings.{fields_left}
 use Rattle.tape_host.proofs.Rowed.{Written}
 use Rattle.tape_host.proofs.write.write_row.Given as goal
 

@@ -1,8 +1,6 @@
-use Rattle.std.proofs.Common.{◌≡◌, ℕ, ◌+◌, ◌%◌, ◌<◌, ◌≤◌, get_or}
+use Rattle.std.proofs.Common.{◌≡◌, ℕ, ◌+◌, ◌%◌, ◌<◌, get_or}
 use Rattle.tray.proofs.rows.write_bytes.Given as goal
 
--- what is written so far, and the rest as it was
+-- what is written so far
 abbrev pub invariant-loop-j : goal.invariant-loop-j
-invariant-loop-j l =
-    ((i : ℕ) → i < l.j → get_or l.part i 0 ≡ (l.k + (l.offset + i)) % 256)
-    × ((p : ℕ) → l.j ≤ p → get_or l.part p 0 ≡ get_or l.initial.part p 0)
+invariant-loop-j l = (i : ℕ) → i < l.j → get_or l.part i 0 ≡ (l.k + (l.offset + i)) % 256

@@ -1,7 +1,7 @@
 use Rattle.std.proofs.Common.{eqb, List, length, Option, sym, ap, ◌∙◌, arith}
 use Rattle.host.specs.declared.records.BindRecord.{BindRecord}
 use Rattle.host.proofs.Bound.{bind_after}
-use Rattle.recording.specs.Views.{columns_in}
+use Rattle.tape.specs.Views.{columns_in}
 use Rattle.tape_host.specs.Tapes.{means}
 use Rattle.tape_host.specs.Wholes.{own_codes}
 use Rattle.tape_host.proofs.Called.{width_few, bind_error_is, now_bound}
@@ -15,10 +15,10 @@ returns-then-not-asks_own_codes c =
     let n = c.if-records-count_columns.false ∙ c.count_columns.ensures ∙ ap (λ xs. length (columns_in xs)) h in
     let z = sym (ap (λ xs. own_codes (columns_in xs) bs) h) ∙ sym c.if-not-asks_own_codes.ensures in
     let e = bind_error_is t bs n (sym c.if-not-are_in_order.ensures) _ z in
-    record { granted = sym (ap (λ x. eqb x 0) e); after = bind_after (means t) bs 2036 e }
+    record { granted = c.refuse-then-not-asks_own_codes.ensures.refused ∙ sym (ap (λ x. eqb x 0) e); after = ap means c.refuse-then-not-asks_own_codes.ensures.after ∙ bind_after (means t) bs 2036 e }
 
-pub copy_records-self-requires : goal.copy_records-self-requires
-copy_records-self-requires c =
+pub copy_records-requires : goal.copy_records-requires
+copy_records-requires c =
     let n = c.if-records-count_columns.false ∙ c.count_columns.ensures ∙ ap (λ xs. length (columns_in xs)) c.first_columns-columns.ensures in
     omega (arith, width_few c.args.self.now.columns.now)
 
@@ -35,6 +35,6 @@ returns c =
     record {
       granted = sym (ap (λ x. eqb x 0) e);
       after =
-          ap (λ (b : Option (List BindRecord)). record { columns = m.columns; carries = m.carries; coming = m.coming; current = m.current; bound = b; error = 0 }) (now_bound t bs n o c.copy_records-self.result c.copy_records-self.ensures)
+          ap (λ (b : Option (List BindRecord)). record { columns = m.columns; carries = m.carries; coming = m.coming; current = m.current; bound = b; error = 0 }) (now_bound t bs n o c.copy_records.result c.copy_records.ensures)
           ∙ bind_after m bs 0 e;
     }

@@ -1,6 +1,8 @@
-use Rattle.std.proofs.Common.{◌-◌, ◌∷◌, length, sym, refl, ap, ◌∙◌, inr, rules}
+use Rattle.std.proofs.Common.{◌-◌, ◌∷◌, length, sym, refl, ap, ◌∙◌, inr, is_some, rules}
+use Rattle.std.proofs.lemmas.Bool.{and_parts}
 use Rattle.host.specs.Calls.{in_order, all_end_by}
-use Rattle.recording.specs.Views.{columns_in, events_in, event_of}
+use Rattle.tape.specs.Views.{columns_in, events_in, event_of}
+use Rattle.tape_host.specs.Tapes.{places_of}
 use Rattle.tape_host.proofs.Called.{allowed_says, ordered, failure_came}
 use Rattle.tape_host.proofs.hosted.TapeHost.fetch.Goals as goal
 
@@ -15,7 +17,7 @@ write_row-requires c =
     record {
       ordered = ap (in_order 0) p ∙ ordered t reports arena ok _ refl;
       inside = ap (all_end_by (length arena)) p ∙ a.inside;
-      counted = a.reported ∙ sym c.places.ensures.counted;
+      counted = a.reported ∙ sym (c.places.ensures.counted (and_parts (is_some t.records) (in_order 0 (places_of t)) a.bound).0);
     }
 
 pub returns-in-Failure : goal.returns-in-Failure

@@ -1,7 +1,8 @@
-use Rattle.std.proofs.Common.{◌≡◌, length, get_or, None, sym, refl, ap, ◌∙◌, subst, arith, rules}
+use Rattle.std.proofs.Common.{◌≡◌, Bool, length, get_or, None, sym, refl, ap, ◌∙◌, subst, arith, rules}
 use Rattle.host.specs.Fields.{Field, null}
-use Rattle.host.specs.Calls.{record_of, no_record, from_offset, PartReported, Stands}
-use Rattle.recording.specs.Views.{columns_in, fields_in}
+use Rattle.host.specs.Calls.{record_of, no_record, from_offset, PartReported, Stands, Parts, PartRefused}
+use Rattle.tape_host.specs.declared.tapes.Tape.{Tape}
+use Rattle.tape.specs.Views.{columns_in, fields_in}
 use Rattle.tape_host.specs.Tapes.{shown, columns_of, places_of, current_of, means}
 use Rattle.tape_host.proofs.Called.{record_some, record_unbound, record_past, part_refused}
 use Rattle.tape_host.proofs.hosted.TapeHost.fetch_column.Goals as goal
@@ -14,7 +15,10 @@ returns-then-column-places c =
       | goal.then-column-places-via-then-column-places w ↦ record_past t column (omega (arith, ap length c.places.ensures.are))
       | goal.then-column-places-via-else-column-places+then-not-is_bound w ↦ record_unbound t column (sym w.if-not-is_bound.ensures)
     ] in
-    part_refused t column c.in-Some.bytes c.args.report.now c.args.part.now c.in-Some.is none
+    let r = c.refuse-then-column-places in
+    subst (λ (b : Bool). Parts b (means t) (means r.new.self) column c.args.offset c.args.report.now c.args.report.now c.args.part.now c.args.part.now) (sym r.ensures.refused)
+    (subst (λ (t' : Tape). PartRefused (means t) (means t') column c.args.report.now c.args.report.now c.args.part.now c.args.part.now) (sym r.ensures.after)
+    (part_refused t column c.in-Some.bytes c.args.report.now c.args.part.now c.in-Some.is none))
 
 pub returns : goal.returns
 returns c =

@@ -1,6 +1,0 @@
-pub mod Steps
-pub mod Walked
-pub mod Same
-pub mod Fitting
-pub mod Counted
-pub mod Whole

@@ -1,6 +1,0 @@
-use Rattle.std.proofs.Common.{arith, rules}
-use Rattle.recording.proofs.Walked.{take4_at}
-use Rattle.recording.proofs.walk.take_u32.Goals as goal
-
-pub returns : goal.returns
-returns c = take4_at c.args.bytes.now c.from_le_bytes.result (search rules) c.from_le_bytes.ensures (omega arith)

@@ -1,4 +1,0 @@
-pub mod Format
-pub mod Decode
-pub mod Views
-pub mod Recordings

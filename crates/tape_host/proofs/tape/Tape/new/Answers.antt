@@ -1,8 +1,0 @@
-use Rattle.recording.specs.Recordings.{contents}
-use Rattle.tape_host.proofs.Columned.{new_holds}
-use Rattle.tape_host.proofs.tape.Tape.new.Goals as goal
-
-pub returns-in-Ok : goal.returns-in-Ok
-returns-in-Ok c =
-    let r = c.parts-left.result in
-    new_holds c.args.bytes.now r.0.now r.1.now r.2 (contents c.in-Ok.recording) c.parts-left.ensures c.in-Ok.ensures
