@@ -30,6 +30,7 @@ impl ColumnTable {
     pub(crate) fn grown(&self) -> Option<ColumnTable>
         ensures { MatchOption result (self.now.room < need self.now) (Grown self.now) }
     {
+        // A match, not `or_else`: at None a proof learns of that call nothing that it can name.
         match self.relaid(ColumnRecord::widened) {
             Some(wide) => Some(wide),
             None => self.relaid(ColumnRecord::counted),

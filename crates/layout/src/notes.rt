@@ -38,8 +38,8 @@ impl ColumnTable {
         ensures noted { count_of self.old ≤ length reports.now → Noted self.old reports.now self.new }
         ensures places { SamePlaces self.old self.new }
     {
-        for i in 0..reports.len() {
-            self.note(i, reports[i]);
+        for (i, report) in reports.iter().enumerate() {
+            self.note(i, *report);
         }
     }
 
