@@ -1,5 +1,5 @@
 -- The capacity of a place at an opening.
-use Rattle.std.proofs.Common.{◌≡◌, ℕ, zero, suc, ◌+◌, ◌<◌, ◌≤◌, Bool, true, false, cond, eqb, List, [], ◌∷◌, ◌++◌, length, get_or, take, Some, None, Option, refl, ap, ◌∙◌, arith}
+use Rattle.std.proofs.Common.{◌≡◌, ℕ, ◌≤◌, Bool, true, false, cond, eqb, [], ◌∷◌, Some, None, Option, refl, arith}
 use Rattle.mysql.specs.Ranges.{among}
 use Rattle.mysql.specs.Types.{size_of}
 use Rattle.layout.specs.Columns.{bytes_by}

@@ -1,6 +1,6 @@
 -- What a column's record says of its place: how the places of a table lie, how many of a column's bytes stand in its place, what the
 -- need counts of it, and the capacity that it gets when places grow.
-use Rattle.std.specs.Prelude.{◌≡◌, ℕ, ◌+◌, ◌<◌, ◌≤◌, min, max, Bool, true, false, List, length, take, sum_by, Some, None, Option, slice_index_or}
+use Rattle.std.specs.Prelude.{◌≡◌, ℕ, ◌<◌, ◌≤◌, min, max, Bool, true, false, List, length, take, sum_by, Some, None, Option, slice_index_or}
 use Rattle.mysql.specs.Types.{has, size_of}
 use Rattle.host.specs.declared.records.BindRecord.{BindRecord}
 use Rattle.host.specs.declared.records.Report.{Report}

@@ -8,5 +8,5 @@ invariant-loop-from l = record {
   i : ℕ;
   old_left : l.from-iterator.a.rest.now ≡ drop i l.old.columns.items;
   new_left : l.from-iterator.b.rest.now ≡ drop i l.new.columns.items;
-  moved : LeftSoFar l.old l.new i l.initial.arena l.arena
+  moved : LeftSoFar l.old l.new i l.initial.arena l.arena;
 }

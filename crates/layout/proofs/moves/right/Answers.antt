@@ -1,4 +1,4 @@
-use Rattle.std.proofs.Common.{◌≡◌, ℕ, ◌+◌, ◌-◌, ◌<◌, length, take, refl, sym, ap, ◌∙◌, inl, inr, ⊎_elim, subst, arith}
+use Rattle.std.proofs.Common.{ℕ, ◌-◌, ◌<◌, length, refl, sym, ap, ◌∙◌, inl, inr, ⊎_elim, subst, arith}
 use Rattle.std.proofs.lemmas.List.{take_all}
 use Rattle.layout.specs.Tables.{count_of}
 use Rattle.layout.proofs.Carrying.{RightSoFar, from_back, none_before, stands_inside, lands_inside, right_shifted, right_stays}

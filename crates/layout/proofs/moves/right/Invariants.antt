@@ -10,5 +10,5 @@ invariant-loop-from l = record {
   within : i ≤ count_of l.old;
   old_left : l.from-iterator.a.iter.rest.now ≡ take i l.old.columns.items;
   new_left : l.from-iterator.b.iter.rest.now ≡ take i l.new.columns.items;
-  moved : RightSoFar l.old l.new i l.initial.arena l.arena
+  moved : RightSoFar l.old l.new i l.initial.arena l.arena;
 }

@@ -1,4 +1,4 @@
-use Rattle.std.proofs.Common.{◌≡◌, ℕ, ◌<◌, List, ◌∷◌, map, get_or, set, refl, ap, ◌∙◌, arith, rules}
+use Rattle.std.proofs.Common.{◌≡◌, ℕ, List, map, get_or, set, refl, ap, ◌∙◌, arith, rules}
 use Rattle.std.proofs.Math.Seq.{map-set_same}
 use Rattle.host.specs.declared.records.Report.{Report}
 use Rattle.layout.specs.declared.record.ColumnRecord.{ColumnRecord}

@@ -1,10 +1,8 @@
-use Rattle.std.proofs.Common.{◌≡◌, ℕ, ◌+◌, ◌<◌, get_or, sym, ◌∙◌, subst, arith}
+use Rattle.std.proofs.Common.{◌≡◌, ℕ, get_or, sym, ◌∙◌, subst, arith}
 use Rattle.std.proofs.lemmas.List.Sums.{sum_by_more}
 use Rattle.mysql.specs.declared.bind.Column.{Column}
 use Rattle.mysql.specs.Types.{size_of}
-use Rattle.layout.specs.declared.record.ColumnRecord.{ColumnRecord}
-use Rattle.layout.specs.Columns.{moved}
-use Rattle.layout.specs.Tables.{count_of, end, first_capacity, first_record, no_pair}
+use Rattle.layout.specs.Tables.{end, first_capacity, first_record, no_pair}
 use Rattle.layout.proofs.Putting.{added_count, added_each}
 use Rattle.layout.proofs.table.ColumnTable.opening.Goals as goal
 

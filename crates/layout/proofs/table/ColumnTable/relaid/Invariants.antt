@@ -1,4 +1,4 @@
-use Rattle.std.proofs.Common.{◌≡◌, ℕ, ◌<◌, Bool, get_or, take}
+use Rattle.std.proofs.Common.{◌≡◌, ℕ, ◌<◌, Bool, take}
 use Rattle.std.specs.Fn.{FnReturnsAt}
 use Rattle.layout.specs.declared.record.ColumnRecord.{ColumnRecord}
 use Rattle.layout.specs.Columns.{moved, wanted, sum}
