@@ -5,7 +5,7 @@ ghost use Rattle.layout.specs.Moves.{Carried, Beyond};
 
 use crate::table::ColumnTable;
 
-// Moves `n` bytes, which stand at `from`, to `to`.
+// Moves `n` bytes, which stand at `from`, to `to`. A function of its own, since its clauses say of each byte what both passes need.
 fn shift(arena: &mut [u8], from: usize, n: usize, to: usize)
     requires stands { from + n ≤ length arena.old }
     requires lands { to + n ≤ length arena.old }
@@ -23,11 +23,9 @@ pub(crate) fn right(arena: &mut [u8], old: &ColumnTable, new: &ColumnTable)
     ensures carried { Carried old.now (start old.now) (λ k. max (start old.now k) (start new.now k)) arena.old arena.new }
     ensures beyond { Beyond (end new.now) arena.old arena.new }
 {
-    for i in (0..old.count).rev() {
-        let column = old.columns[i];
-        let to = new.columns[i].start;
-        if column.start < to {
-            shift(arena, column.start, column.kept(), to);
+    for (from, to) in old.columns.iter().rev().zip(new.columns.iter().rev()) {
+        if from.start < to.start {
+            shift(arena, from.start, from.kept(), to.start);
         }
     }
 }
@@ -39,11 +37,9 @@ pub(crate) fn left(arena: &mut [u8], old: &ColumnTable, new: &ColumnTable)
     ensures carried { Carried old.now (λ k. max (start old.now k) (start new.now k)) (start new.now) arena.old arena.new }
     ensures beyond { Beyond (end new.now) arena.old arena.new }
 {
-    for i in 0..old.count {
-        let column = old.columns[i];
-        let to = new.columns[i].start;
-        if to < column.start {
-            shift(arena, column.start, column.kept(), to);
+    for (from, to) in old.columns.iter().zip(new.columns.iter()) {
+        if to.start < from.start {
+            shift(arena, from.start, from.kept(), to.start);
         }
     }
 }

@@ -1,4 +1,5 @@
 -- The missing parts of a row, fetched column by column, until all of it stands in the new places.
+use borrow.Rule.Slice.PartMut.{put_mid}
 use Rattle.std.proofs.Common.{◌≡◌, ℕ, ◌+◌, ◌-◌, ◌<◌, ◌≤◌, min, Bool, true, false, ◌≢◌, List, length, get_or, drop, None, Option, sym, refl, ap, ◌∙◌, subst, ⊎_elim, arith, below_more}
 use Rattle.std.proofs.lemmas.List.{get_or-drop, length-drop}
 use Rattle.std.proofs.lemmas.Bool.{cases_eq, cases_lt}
@@ -12,23 +13,25 @@ use Rattle.host.specs.Calls.{with_error, from_offset, Reported, PartReported, St
 use Rattle.layout.specs.declared.record.ColumnRecord.{ColumnRecord}
 use Rattle.layout.specs.declared.table.ColumnTable.{ColumnTable}
 use Rattle.layout.specs.Columns.{bytes_by, bytes_of, kept, kept_if, noted, moved, wanted, Over, Fits}
-use Rattle.layout.specs.Tables.{col, start, end, Grown, SamePlaces, NotedAt}
+use Rattle.layout.specs.Tables.{count_of, col, start, end, Grown, SamePlaces, NotedAt}
 use Rattle.layout.specs.Moves.{Beyond}
 use Rattle.layout.proofs.Spans.{apart, inside}
 use Rattle.layout.proofs.Binding.{same_bind}
 use Rattle.layout.proofs.Wanting.{new_over, new_bytes}
 use Rattle.rows.specs.Standing.{pair_of, report_of, StandsWhole}
 use Rattle.rows.specs.Settling.{column_field, NotLost, PartGot, Half}
+use Rattle.host.proofs.Placed.{put_below, put_above}
+use Rattle.rows.proofs.Parts.{part_placed}
 use Rattle.rows.proofs.Columned.{field_known, held_bytes, not_truncated, FieldOf, reported_at}
 
 -- the columns below i stand whole, the others have their kept bytes in place
 pub record WholeTo (i : ℕ) (m : Meaning) (r : Row) (old new : ColumnTable) (a : List ℕ) (n : Meaning) (t : ColumnTable) (b : List ℕ) : Type 0 where
   pub host : n ≡ m
-  pub pairs : (k : ℕ) → k < old.count → pair_of (col t k) ≡ pair_of (col old k)
-  pub reported : (k : ℕ) → k < i → k < old.count → Reported (column_field r old k) (col t k).capacity (report_of (col t k))
-  pub whole : (k : ℕ) → k < i → k < old.count → StandsWhole (column_field r old k) (col t k) b
-  pub same : (k : ℕ) → i ≤ k → k < old.count → col t k ≡ col new k
-  pub stands : (k : ℕ) → i ≤ k → k < old.count → Stands (column_field r old k) (start new k) (kept (col old k)) b
+  pub pairs : (k : ℕ) → k < count_of old → pair_of (col t k) ≡ pair_of (col old k)
+  pub reported : (k : ℕ) → k < i → k < count_of old → Reported (column_field r old k) (col t k).capacity (report_of (col t k))
+  pub whole : (k : ℕ) → k < i → k < count_of old → StandsWhole (column_field r old k) (col t k) b
+  pub same : (k : ℕ) → i ≤ k → k < count_of old → col t k ≡ col new k
+  pub stands : (k : ℕ) → i ≤ k → k < count_of old → Stands (column_field r old k) (start new k) (kept (col old k)) b
   pub beyond : Beyond (end new) a b
 
 -- one column, whose field is known
@@ -101,7 +104,7 @@ same_bytes : (c d : ColumnRecord) → pair_of c ≡ pair_of d → c.length ≡ d
 same_bytes c d e n = ap (λ (p : Column). bytes_by (size_of p.code) c.length) e ∙ ap (bytes_by (size_of d.code)) n
 
 module _ (old new : ColumnTable) (g : Grown old new) (m : Meaning) (r : Row) (a : List ℕ) (half : Half m r old new a) where
-  new_pair : (k : ℕ) → k < old.count → pair_of (col new k) ≡ pair_of (col old k)
+  new_pair : (k : ℕ) → k < count_of old → pair_of (col new k) ≡ pair_of (col old k)
   new_pair k l = ap pair_of (g.laid.each k l)
 
   pub whole_none : WholeTo 0 m r old new a m new a
@@ -115,10 +118,10 @@ module _ (old new : ColumnTable) (g : Grown old new) (m : Meaning) (r : Row) (a 
     beyond = λ p l. refl;
   }
 
-  known : (k : ℕ) → k < old.count → FieldOf (size_of (col old k).code) (column_field r old k)
+  known : (k : ℕ) → k < count_of old → FieldOf (size_of (col old k).code) (column_field r old k)
   known k l = field_known m r old half.current k l
 
-  module _ (i : ℕ) (l : i < old.count) (n : Meaning) (t : ColumnTable) (b : List ℕ) (w : WholeTo i m r old new a n t b) where
+  module _ (i : ℕ) (l : i < count_of old) (n : Meaning) (t : ColumnTable) (b : List ℕ) (w : WholeTo i m r old new a n t b) where
     -- a column that fits its old place is whole already
     pub whole_skip : Fits (col old i) → WholeTo (i + 1) m r old new a n t b
     whole_skip fit =
@@ -129,10 +132,10 @@ module _ (old new : ColumnTable) (g : Grown old new) (m : Meaning) (r : Row) (a 
         record {
           host = w.host;
           pairs = w.pairs;
-          reported = below_more (λ k. k < old.count → Reported (column_field r old k) (col t k).capacity (report_of (col t k))) i w.reported
+          reported = below_more (λ k. k < count_of old → Reported (column_field r old k) (col t k).capacity (report_of (col t k))) i w.reported
               (λ _. subst (λ (d : ColumnRecord). Reported f d.capacity (report_of d)) (sym is)
               (reported_at f (size_of c.code) c.capacity (wanted g.tight c) (report_of c) (known i l) (half.clean i l) fit new_room (half.reported i l)));
-          whole = below_more (λ k. k < old.count → StandsWhole (column_field r old k) (col t k) b) i w.whole
+          whole = below_more (λ k. k < count_of old → StandsWhole (column_field r old k) (col t k) b) i w.whole
               (λ _. subst (λ (d : ColumnRecord). StandsWhole f d b) (sym is)
               (skipped f (size_of c.code) c (start new i) (wanted g.tight c) b refl (known i l) (half.reported i l) fit (w.stands i (omega arith) l)));
           same = λ k h. w.same k (omega arith);
@@ -146,7 +149,7 @@ module _ (old new : ColumnTable) (g : Grown old new) (m : Meaning) (r : Row) (a 
         (after : (p : ℕ) → start new i + (col old i).length ≤ p → get_or b' p 0 ≡ get_or b p 0)
         (got : PartGot n (column_field r old i) (col old i).capacity report n' (start new i + (col old i).capacity) (start new i + (col old i).length) b')
         (noted_in : NotedAt i t report u) where
-      inside_new : (k : ℕ) → k < old.count → start new k + (col new k).capacity ≤ end new
+      inside_new : (k : ℕ) → k < count_of old → start new k + (col new k).capacity ≤ end new
       inside_new k o = inside new k (omega (arith, g.laid.count))
 
       here : col u i ≡ noted (col t i) report
@@ -167,13 +170,13 @@ module _ (old new : ColumnTable) (g : Grown old new) (m : Meaning) (r : Row) (a 
       -- a column before i keeps what it has
       earlier : (k : ℕ) → k < i → (j : ℕ) → (col t k).is_null ≡ false → j < bytes_of (col t k) → get_or b' ((col t k).start + j) 0 ≡ get_or b ((col t k).start + j) 0
       earlier k h j z q =
-          let o : k < old.count = omega arith in
+          let o : k < count_of old = omega arith in
           let st : (col t k).start ≡ start new k = ap (λ (x : BindRecord). x.start) (same_bind new t places k (omega (arith, g.laid.count))) in
           let cp : (col t k).capacity ≡ (col new k).capacity = ap (λ (x : BindRecord). x.capacity) (same_bind new t places k (omega (arith, g.laid.count))) in
           let fits = whole_fits k o (column_field r old k) refl (w.whole k h o) z in
           before ((col t k).start + j) (omega (arith, apart new k i h (omega (arith, g.laid.count)), st))
         where
-          whole_fits : (k : ℕ) → k < old.count → (f : Field) → column_field r old k ≡ f → StandsWhole f (col t k) b → (col t k).is_null ≡ false → bytes_of (col t k) ≤ (col new k).capacity
+          whole_fits : (k : ℕ) → k < count_of old → (f : Field) → column_field r old k ≡ f → StandsWhole f (col t k) b → (col t k).is_null ≡ false → bytes_of (col t k) ≤ (col new k).capacity
           whole_fits k o null e s z = let y : ◌≡◌ {A = ℕ} 0 1 = (let x : true ≡ false = sym s ∙ z in cc) in absurd (omega arith)
           whole_fits k o (held lost bs) e s z =
               let told = subst (λ (f : Field). Reported f (col old k).capacity (report_of (col old k))) e (half.reported k o) in
@@ -196,12 +199,12 @@ module _ (old new : ColumnTable) (g : Grown old new) (m : Meaning) (r : Row) (a 
                 (λ (e : k ≡ i). subst (λ (x : ℕ). pair_of (col u x) ≡ pair_of (col old x)) (sym e) (ap pair_of is_now))
                 (λ (e : k ≢ i). ap pair_of (other k e) ∙ w.pairs k o)
                 (cases_eq k i);
-            reported = below_more (λ k. k < old.count → Reported (column_field r old k) (col u k).capacity (report_of (col u k))) i
+            reported = below_more (λ k. k < count_of old → Reported (column_field r old k) (col u k).capacity (report_of (col u k))) i
                 (λ k h o. subst (λ (d : ColumnRecord). Reported (column_field r old k) d.capacity (report_of d)) (sym (other k (omega arith))) (w.reported k h o))
                 (λ _. subst (λ (z : ℕ). Reported f z (report_of (col u i))) (sym cap)
                 (subst (λ (d : ColumnRecord). Reported f c.length (report_of d)) (sym is_now)
                 (from_part f c report (start new i) b b' over text_known (half.clean i l) (half.reported i l) got.reported)));
-            whole = below_more (λ k. k < old.count → StandsWhole (column_field r old k) (col u k) b') i
+            whole = below_more (λ k. k < count_of old → StandsWhole (column_field r old k) (col u k) b') i
                 (λ k h o. subst (λ (d : ColumnRecord). StandsWhole (column_field r old k) d b') (sym (other k (omega arith))) (still_whole (column_field r old k) (col t k) b b' (earlier k h) (w.whole k h o)))
                 (λ _. part_whole f c report (start new i) b b' over text_known (half.clean i l) (half.reported i l) (col u i)
                 (ap (λ (z : ColumnRecord). z.code) is_now) (ap (λ (z : ColumnRecord). z.start) is_now) (ap (λ (z : ColumnRecord). z.is_null) is_now) (ap (λ (z : ColumnRecord). z.length) is_now)
@@ -213,10 +216,40 @@ module _ (old new : ColumnTable) (g : Grown old new) (m : Meaning) (r : Row) (a 
             beyond = λ p h. after p (omega (arith, inside_new i l)) ∙ w.beyond p h;
           }
 
--- what is missing of a text has room in its new place
-pub over_inside : (old new : ColumnTable) → Grown old new → (i : ℕ) → i < old.count → Over (col old i) → start new i + (col old i).length ≤ old.room
-over_inside old new g i l o = let w = new.within in omega (arith, inside new i (omega (arith, g.laid.count)), new_over old new g i l o, g.laid.room)
-
 -- where the places stay, so does a column's start
-pub same_start : (new t : ColumnTable) → SamePlaces new t → (i : ℕ) → i < new.count → start t i ≡ start new i
+pub same_start : (new t : ColumnTable) → SamePlaces new t → (i : ℕ) → i < count_of new → start t i ≡ start new i
 same_start new t p i l = ap (λ (x : BindRecord). x.start) (same_bind new t p i l)
+
+-- what is missing of a text has room in its new place: x is the column as it was, and y as it is
+pub missing_inside : (old new t : ColumnTable) → Grown old new → SamePlaces new t → (i : ℕ) → i < count_of old → (x y : ColumnRecord) → x ≡ col old i → y ≡ col t i → Over x → y.start + x.length ≤ old.room
+missing_inside old new t g p i l x y is to o =
+    let w = new.within in let m : i < count_of new = omega (arith, g.laid.count) in
+    omega (arith, ap (λ (z : ColumnRecord). z.start) to, same_start new t p i m, inside new i m, new_over old new g i l (subst Over is o), ap (λ (z : ColumnRecord). z.length) is, g.laid.room)
+
+-- one column more, whose missing part was fetched to its place in the arena
+module _ (old new : ColumnTable) (g : Grown old new) (m : Meaning) (r : Row) (a : List ℕ) (half : Half m r old new a)
+    (i : ℕ) (l : i < count_of old) (n : Meaning) (t : ColumnTable) (b : List ℕ) (w : WholeTo i m r old new a n t b) (places : SamePlaces new t)
+    (x y : ColumnRecord) (is : x ≡ col old i) (to : y ≡ col t i) (over : Over x) (room : old.room ≤ length b)
+    (n' : Meaning) (u : ColumnTable) (b' : List ℕ) (report : Report) (part : List ℕ) where
+  pub whole_fetched : length part ≡ y.start + x.length - (y.start + x.capacity)
+      → b' ≡ put_mid (y.start + x.capacity) (y.start + x.length - (y.start + x.capacity)) b part
+      → PartGot n (column_field r old i) x.capacity report n' 0 (length part) part
+      → NotedAt i t report u → WholeTo (i + 1) m r old new a n' u b'
+  whole_fetched long put got noted_in =
+      let from = y.start + x.capacity in
+      let to_end = y.start + x.length in
+      let longer = over.longer in
+      let inside = missing_inside old new t g places i l x y is to over in
+      let st : y.start ≡ start new i = ap (λ (z : ColumnRecord). z.start) to ∙ same_start new t places i (omega (arith, g.laid.count)) in
+      let cap = ap (λ (z : ColumnRecord). z.capacity) is in
+      let len = ap (λ (z : ColumnRecord). z.length) is in
+      let below = put_below from (to_end - from) b part (omega arith) long in
+      let above = put_above from (to_end - from) b part (omega arith) long in
+      let placed = subst (λ (z : List ℕ). PartGot n (column_field r old i) x.capacity report n' from to_end z) (sym put)
+      (part_placed n n' (column_field r old i) x.capacity report from to_end b part (omega arith) (omega arith) long got) in
+      let moved_to = subst (λ (s : ℕ). PartGot n (column_field r old i) x.capacity report n' (s + x.capacity) (s + x.length) b') st placed in
+      let at_old = subst (λ (d : ColumnRecord). PartGot n (column_field r old i) d.capacity report n' (start new i + d.capacity) (start new i + d.length) b') is moved_to in
+      whole_more old new g m r a half i l n t b w n' u b' report (subst Over is over) places
+      (λ p h. ap (λ (z : List ℕ). get_or z p 0) put ∙ below p (omega (arith, st, cap)))
+      (λ p h. ap (λ (z : List ℕ). get_or z p 0) put ∙ above p (omega (arith, st, len)))
+      at_old noted_in

@@ -1,7 +1,7 @@
 // The two ends of a session, and what can be asked of it.
 ghost use Rattle.std.specs.Prelude.{◌≡◌, ◌<◌, ◌≤◌, true, false, if◌then◌else◌, MatchOption};
 ghost use Rattle.host.specs.Calls.{freed};
-ghost use Rattle.layout.specs.Tables.{col};
+ghost use Rattle.layout.specs.Tables.{count_of, col};
 ghost use Rattle.session.specs.Sessions.{Sound};
 
 use crate::answers::Slip;
@@ -52,17 +52,17 @@ impl<H: Host> Session<H> {
 
     // How many columns are bound: none before an opening was granted.
     pub fn column_count(&self) -> usize
-        ensures { result ≡ (if self.now.opened then self.now.table.count else 0) }
+        ensures { result ≡ (if self.now.opened then count_of self.now.table else 0) }
     {
-        if self.opened { self.table.count } else { 0 }
+        if self.opened { self.table.count() } else { 0 }
     }
 
     // What is known of a bound column.
     pub fn column(&self, i: usize) -> Option<ColumnRecord>
-        ensures { MatchOption result (self.now.opened ≡ true → self.now.table.count ≤ i) (λ c. (self.now.opened ≡ true) × (i < self.now.table.count) × (c ≡ col self.now.table i)) }
+        ensures { MatchOption result (self.now.opened ≡ true → count_of self.now.table ≤ i) (λ c. (self.now.opened ≡ true) × (i < count_of self.now.table) × (c ≡ col self.now.table i)) }
     {
-        if self.opened && i < self.table.count {
-            Some(self.table.columns[i])
+        if self.opened {
+            self.table.column(i)
         } else {
             None
         }

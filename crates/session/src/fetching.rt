@@ -40,7 +40,7 @@ impl<H: Host> Session<H> {
         }
         self.shown = false;
         let mut reports = [NO_REPORT; 64];
-        let count = self.table.count;
+        let count = self.table.count();
         let reports = &mut reports[0..count];
         match self.host.fetch(arena, reports) {
             Fetched::NoData => Ok(Fetch::End),

@@ -70,9 +70,7 @@ fn place_columns<H: Host>(
     let Some(table) = ColumnTable::opening(pairs, arena.len()) else {
         return Err(Fault::new(Refusal::LayoutTooLong));
     };
-    let records = table.bind_records();
-    let count = table.count;
-    if !host.bind(&records[0..count]) {
+    if !host.bind(table.bind_records().as_slice()) {
         return Err(Fault::host(host.error_number()));
     }
     zero(arena, table.end());

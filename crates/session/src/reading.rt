@@ -44,13 +44,12 @@ impl<H: Host> Session<H> {
         ensures { shown_by result ≡ reading self.now arena.now column }
     {
         self.check(arena.len())?;
-        if column >= self.table.count {
+        let Some(record) = self.table.column(column) else {
             return Err(Fault::new(Refusal::NoSuchColumn));
-        }
+        };
         if !self.shown {
             return Err(Fault::new(Refusal::NoCurrentRow));
         }
-        let record = self.table.columns[column];
         if record.is_null {
             return Ok(None);
         }

@@ -1,7 +1,7 @@
 // A session, and a value that it shows.
 ghost use Rattle.std.specs.Prelude.{◌≡◌, ℕ, ◌<◌, true};
 ghost use Rattle.layout.specs.Columns.{Fits};
-ghost use Rattle.layout.specs.Tables.{col};
+ghost use Rattle.layout.specs.Tables.{count_of, col};
 
 use layout::ColumnTable;
 use readings::MysqlValue;
@@ -13,7 +13,7 @@ pub struct Session<H> {
     pub(crate) table: ColumnTable,
     pub(crate) opened: bool,
     pub(crate) shown: bool,
-    ghost fit: { shown ≡ true → (k : ℕ) → k < table.count → Fits (col table k) },
+    ghost fit: { shown ≡ true → (k : ℕ) → k < count_of table → Fits (col table k) },
 }
 
 // What a reading shows. It is lent by the arena, whose bytes it has, and by the session, so that neither changes while it is held.

@@ -1,5 +1,12 @@
+use Rattle.std.proofs.Common.{◌≡◌, ℕ, drop}
 use Rattle.layout.proofs.Carrying.{LeftSoFar}
 use Rattle.layout.proofs.moves.left.Given as goal
 
-abbrev pub invariant-loop-i : goal.invariant-loop-i
-invariant-loop-i l = LeftSoFar l.old l.new l.i l.initial.arena l.arena
+-- the columns before the i-th have moved, and the others are to come
+abbrev pub invariant-loop-from : goal.invariant-loop-from
+invariant-loop-from l = record {
+  i : ℕ;
+  old_left : l.from-iterator.a.rest.now ≡ drop i l.old.columns.items;
+  new_left : l.from-iterator.b.rest.now ≡ drop i l.new.columns.items;
+  moved : LeftSoFar l.old l.new i l.initial.arena l.arena;
+}

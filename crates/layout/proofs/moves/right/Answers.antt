@@ -1,26 +1,66 @@
-use Rattle.std.proofs.Common.{◌≡◌, ℕ, ◌+◌, ◌-◌, ◌<◌, ◌≤◌, get_or, subst, arith}
-use Rattle.layout.specs.Columns.{kept}
-use Rattle.layout.specs.Tables.{col, start}
-use Rattle.layout.proofs.Carrying.{RightSoFar, old_inside, new_room, right_step}
+use Rattle.std.proofs.Common.{ℕ, ◌-◌, ◌<◌, length, refl, sym, ap, ◌∙◌, inl, inr, ⊎_elim, subst, arith}
+use Rattle.std.proofs.lemmas.List.{take_all}
+use Rattle.layout.specs.Tables.{count_of}
+use Rattle.layout.proofs.Carrying.{RightSoFar, from_back, none_before, stands_inside, lands_inside, right_shifted, right_stays}
 use Rattle.layout.proofs.moves.right.Goals as goal
+
+pub loop-from-init : goal.loop-from-init
+loop-from-init c =
+    let old = c.args.old.now.columns.items in let new = c.args.new.now.columns.items in
+    let same = c.requires.grown.laid.count in
+    record {
+      i = length old;
+      within = omega arith;
+      old_left = ap (λ z. z.a.iter.rest.now) c.into_iter-from-iterator.ensures.into_iter_gives ∙ ap (λ z. z.iter.rest.now) c.zip-from-items.ensures.first ∙ ap (λ z. z.rest.now) c.rev.ensures.source ∙ c.iter.ensures.rest ∙ c.deref.ensures.0 ∙ sym (take_all (length old) old (omega arith));
+      new_left = ap (λ z. z.b.iter.rest.now) c.into_iter-from-iterator.ensures.into_iter_gives ∙ ap (λ z. z.iter.rest.now) c.zip-from-items.ensures.second ∙ ap (λ z. z.rest.now) c.rev-2.ensures.source ∙ c.iter-2.ensures.rest ∙ c.deref-2.ensures.0 ∙ sym (take_all (length old) new (omega arith));
+      moved = (λ k m j o. refl, λ k m n j o. absurd (omega arith), λ p m. refl);
+    }
 
 pub shift-requires : goal.shift-requires
 shift-requires c =
-    let old = c.args.old.now in let new = c.args.new.now in let i = c.loop-i.i - 1 in
+    let old = c.args.old.now in let new = c.args.new.now in let inv = c.loop-from.invariant in let same = c.requires.grown.laid.count in
+    let x = from_back old.columns.items inv.i _ _ inv.within (sym inv.old_left ∙ c.in-Some.ensures.steps.0) in
+    let y = from_back new.columns.items inv.i _ _ (omega (arith, inv.within)) (sym inv.new_left ∙ c.in-Some.ensures.steps.1) in
+    let l : inv.i - 1 < count_of old = omega (arith, inv.within, x.0) in
+    let room = c.requires.room in let long = c.loop-from.auto.arena in
     record {
-      stands = omega (arith, c.kept.ensures, old_inside old new c.requires.grown i (omega arith));
-      lands = omega (arith, c.kept.ensures, new_room old new c.requires.grown i (omega arith));
+      stands = omega (arith, c.kept.ensures, stands_inside old new c.requires.grown (inv.i - 1) l _ _ x.1 y.1);
+      lands = omega (arith, c.kept.ensures, lands_inside old new c.requires.grown (inv.i - 1) l _ _ x.1 y.1);
     }
 
-pub loop-i-preserved-then-column-to : goal.loop-i-preserved-then-column-to
-loop-i-preserved-then-column-to c =
-    let old = c.args.old.now in let new = c.args.new.now in let i = c.loop-i.i - 1 in
-    let a0 = c.args.arena.now in
-    let a = c.loop-i.arena in
+pub loop-from-preserved-then-from-to : goal.loop-from-preserved-then-from-to
+loop-from-preserved-then-from-to c =
+    let old = c.args.old.now in let new = c.args.new.now in let inv = c.loop-from.invariant in let same = c.requires.grown.laid.count in
+    let x = from_back old.columns.items inv.i _ _ inv.within (sym inv.old_left ∙ c.in-Some.ensures.steps.0) in
+    let y = from_back new.columns.items inv.i _ _ (omega (arith, inv.within)) (sym inv.new_left ∙ c.in-Some.ensures.steps.1) in
+    let l : inv.i - 1 < count_of old = omega (arith, inv.within, x.0) in
     let s = c.shift.ensures in
-    let b = c.shift.new.arena in
-    let n = c.kept.ensures in
-    let up : c.loop-i.i ≡ i + 1 = omega arith in
-    let moved : (j : ℕ) → j < kept (col old i) → get_or b (start new i + j) 0 ≡ get_or a (start old i + j) 0 = λ j h. s.moved j (omega arith) in
-    let after : (p : ℕ) → start new i + kept (col old i) ≤ p → get_or b p 0 ≡ get_or a p 0 = λ p h. s.after p (omega arith) in
-    right_step old new c.requires.grown a b i (omega arith) moved s.before after a0 c.if-column-to.true (subst (λ (x : ℕ). RightSoFar old new x a0 a) up c.loop-i.invariant)
+    record {
+      i = inv.i - 1;
+      within = omega (arith, l);
+      old_left = sym x.2;
+      new_left = sym y.2;
+      moved = right_shifted old new c.requires.grown (inv.i - 1) l _ _ x.1 y.1 c.args.arena.now c.loop-from.arena c.shift.new.arena c.kept.result c.kept.ensures s.moved s.before s.after c.if-from-to.true
+          (subst (λ (k : ℕ). RightSoFar old new k c.args.arena.now c.loop-from.arena) x.0 inv.moved);
+    }
+
+pub loop-from-preserved : goal.loop-from-preserved
+loop-from-preserved c =
+    let old = c.args.old.now in let new = c.args.new.now in let inv = c.loop-from.invariant in let same = c.requires.grown.laid.count in
+    let x = from_back old.columns.items inv.i _ _ inv.within (sym inv.old_left ∙ c.in-Some.ensures.steps.0) in
+    let y = from_back new.columns.items inv.i _ _ (omega (arith, inv.within)) (sym inv.new_left ∙ c.in-Some.ensures.steps.1) in
+    let l : inv.i - 1 < count_of old = omega (arith, inv.within, x.0) in
+    record {
+      i = inv.i - 1;
+      within = omega (arith, l);
+      old_left = sym x.2;
+      new_left = sym y.2;
+      moved = right_stays old new c.requires.grown (inv.i - 1) l _ _ x.1 y.1 c.args.arena.now c.loop-from.arena c.if-from-to.false
+          (subst (λ (k : ℕ). RightSoFar old new k c.args.arena.now c.loop-from.arena) x.0 inv.moved);
+    }
+
+pub returns : goal.returns
+returns c =
+    let old = c.args.old.now in let new = c.args.new.now in let inv = c.loop-from.invariant in
+    let done = none_before inv.i old.columns.items new.columns.items c.requires.grown.laid.count inv.within _ _ inv.old_left inv.new_left (⊎_elim (λ x. inl x.1.0) (λ x. inr x.1.0) c.in-None.ensures.steps) in
+    record { carried = λ k l. inv.moved.1 k (omega (arith, done)) l; beyond = inv.moved.2 }

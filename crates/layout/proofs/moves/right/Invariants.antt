@@ -1,5 +1,14 @@
+use Rattle.std.proofs.Common.{◌≡◌, ℕ, ◌≤◌, take}
+use Rattle.layout.specs.Tables.{count_of}
 use Rattle.layout.proofs.Carrying.{RightSoFar}
 use Rattle.layout.proofs.moves.right.Given as goal
 
-abbrev pub invariant-loop-i : goal.invariant-loop-i
-invariant-loop-i l = RightSoFar l.old l.new l.i l.initial.arena l.arena
+-- the columns from the i-th on have moved, and those before it are to come
+abbrev pub invariant-loop-from : goal.invariant-loop-from
+invariant-loop-from l = record {
+  i : ℕ;
+  within : i ≤ count_of l.old;
+  old_left : l.from-iterator.a.iter.rest.now ≡ take i l.old.columns.items;
+  new_left : l.from-iterator.b.iter.rest.now ≡ take i l.new.columns.items;
+  moved : RightSoFar l.old l.new i l.initial.arena l.arena;
+}
