@@ -109,12 +109,8 @@ module _ {H : Type 0} (m m' : Meaning) (s s' : Session H) (a a' : List ℕ) (wan
       opening_by r (dues.opening s.opened (length a) m.carries wanted m.columns)
       (ap (λ (b : Bool). dues.opening b (length a) m.carries wanted m.columns) (is_some s.opened (pairs_of s.table))) w
 
--- a session is opened by a granted opening, and stays as it is where one is refused
+-- a session stays as it is where an opening is refused
 module _ {H : Type 0} (m m' : Meaning) (s s' : Session H) (a a' : List ℕ) where
-  pub opens : (slip : Slip) (d : Result (List Column) Fault) → AfterOpening (Ok slip) d m m' s s' a a' → s'.opened ≡ true
-  opens slip (Ok pairs) w = w.opened
-  opens slip (Err f) w = absurd w
-
   pub opens_not : (f : Fault) (d : Result (List Column) Fault) → AfterOpening (Err f) d m m' s s' a a' → s'.opened ≡ s.opened
   opens_not f (Ok pairs) w = absurd w
   opens_not f (Err g) w = w.1.opened
