@@ -32,18 +32,19 @@ impl<H: Host> Session<H> {
         ensures exact { shown_by result ≡ reading self.now arena.now column }
         ensures row { Sound (H.Host.meaning self.now.host) self.now → Holds (H.Host.meaning self.now.host) self.now arena.now → passes self.now arena.now ≡ true → shown_by result ≡ row_reading (pairs_of self.now.table) (shown_row (H.Host.meaning self.now.host) self.now) column }
     {
+        self.check(arena.len())?;
         self.look(arena, column)
     }
 
-    // What a column's record and place say.
+    // What a column's record and place say, where the two checks pass.
     fn look<'s, 'a>(
         &'s self,
         arena: &'a [u8],
         column: usize,
     ) -> Result<Option<Value<'s, 'a>>, Fault>
+        requires { passes self.now arena.now ≡ true }
         ensures { shown_by result ≡ reading self.now arena.now column }
     {
-        self.check(arena.len())?;
         let Some(record) = self.table.column(column) else {
             return Err(Fault::new(Refusal::NoSuchColumn));
         };
@@ -53,10 +54,8 @@ impl<H: Host> Session<H> {
         if record.is_null {
             return Ok(None);
         }
-        let tpe = match MysqlType::try_from((record.code, record.flags)) {
-            Ok(tpe) => tpe,
-            Err(fault) => return Err(fault.at(column as u8)),
-        };
+        let pair = (record.code, record.flags);
+        let tpe = MysqlType::try_from(pair).map_err(|fault| fault.at(column as u8))?;
         let start = record.start;
         let end = start + record.byte_count() as usize;
         let value = MysqlValue::new(&arena[start..end], tpe);
@@ -71,21 +70,8 @@ impl<H: Host> Session<H> {
         ensures exact { result ≡ read_as T.FromSql.reads column (reading self.now arena.now column) }
         ensures row { Sound (H.Host.meaning self.now.host) self.now → Holds (H.Host.meaning self.now.host) self.now arena.now → passes self.now arena.now ≡ true → result ≡ read_as T.FromSql.reads column (row_reading (pairs_of self.now.table) (shown_row (H.Host.meaning self.now.host) self.now) column) }
     {
-        self.look_as(arena, column)
-    }
-
-    // What a column's record and place say, as a value of a type.
-    fn look_as<T: FromSql>(&self, arena: &[u8], column: usize) -> Result<T, Fault>
-        ensures { result ≡ read_as T.FromSql.reads column (reading self.now arena.now column) }
-    {
-        let value = match self.look(arena, column)? {
-            Some(shown) => Some(shown.value),
-            None => None,
-        };
-        match from_nullable_sql::<T>(value) {
-            Ok(x) => Ok(x),
-            Err(fault) => Err(fault.at(column as u8)),
-        }
+        let value = self.read(arena, column)?.map(|shown| shown.value);
+        from_nullable_sql(value).map_err(|fault| fault.at(column as u8))
     }
 }
 
