@@ -9,7 +9,7 @@ use Rattle.mysql.specs.Faults.{refused}
 use Rattle.host.specs.Meanings.{Row, Event, Meaning}
 use Rattle.host.specs.Meanings as event
 use Rattle.layout.specs.declared.table.ColumnTable.{ColumnTable}
-use Rattle.layout.specs.Tables.{col}
+use Rattle.layout.specs.Tables.{count_of, col}
 use Rattle.rows.specs.declared.answers.Fetch.{Fetch}
 use Rattle.rows.specs.declared.answers.Fetch.TheVariants as fetch_answer
 use Rattle.session.specs.declared.answers.Slip.{Slip}
@@ -222,7 +222,7 @@ module _ {H X : Type 0} (m : Meaning) (s : Session H) (a : List ℕ) (k : ℕ) (
   read_by false o =
       exact
       ∙ ap (dues.read_as reads k)
-      (unopened s (length a) (cond (nat_lt k s.table.count) (cond s.shown (record_shown k (col s.table k) a) (Err (refused NoCurrentRow))) (Err (refused NoSuchColumn))) o)
+      (unopened s (length a) (cond (nat_lt k (count_of s.table)) (cond s.shown (record_shown k (col s.table k) a) (Err (refused NoCurrentRow))) (Err (refused NoSuchColumn))) o)
 
   -- from what a typed reading ensures
   pub read_is : r ≡ dues.read_as reads k (read_due (ideal_of m s a).bound (ideal_of m s a).shown k)
