@@ -3,8 +3,7 @@ ghost use Rattle.std.specs.Prelude.{◌≡◌, ◌≤◌, false, length, slice_i
 ghost use Rattle.mysql.specs.Taken.{taken_pair};
 ghost use Rattle.host.specs.Meanings.{no_column};
 ghost use Rattle.rows.specs.Bounds.{wanted_of, bound};
-ghost use Rattle.rows.specs.Dues.{opening as opening_due};
-ghost use Rattle.session.specs.Sessions.{Sound, Holds, PlacedAs, AfterOpening};
+ghost use Rattle.session.specs.Sessions.{IsSound, HoldsRow, PlacedAs, Opens};
 
 use crate::answers::Slip;
 use crate::state::Session;
@@ -13,7 +12,7 @@ use host::{Host, bind_all};
 use layout::ColumnTable;
 use mysql::{Column, Fault, MysqlType, Refusal, taken};
 
-// The most bytes that an arena has.
+// The most bytes that an arena has; `layout` has this number for its own tables.
 const MOST_BYTES: usize = 65536;
 
 // The code and flags that a column of a host's result is bound with. No type is wanted of the columns past the end of the list.
@@ -59,9 +58,9 @@ fn place_columns<H: Host>(
 impl<H: Host> Session<H> {
     // Binds the columns of the host's result to places in the arena, and hands out a slip.
     pub fn open(&mut self, arena: &mut [u8], wanted: &[Option<MysqlType>]) -> Result<Slip, Fault>
-        ensures after { AfterOpening result (opening_due self.old.opened (length arena.old) (H.Host.meaning self.old.host).carries wanted.now (H.Host.meaning self.old.host).columns) (H.Host.meaning self.old.host) (H.Host.meaning self.new.host) self.old self.new arena.old arena.new }
-        ensures sound { Sound (H.Host.meaning self.old.host) self.old → Sound (H.Host.meaning self.new.host) self.new }
-        ensures holds { Holds (H.Host.meaning self.old.host) self.old arena.old → Holds (H.Host.meaning self.new.host) self.new arena.new }
+        ensures after { Opens H.Host.meaning result wanted.now self.old self.new arena.old arena.new }
+        ensures sound { IsSound H.Host.meaning self.old → IsSound H.Host.meaning self.new }
+        ensures holds { HoldsRow H.Host.meaning self.old arena.old → HoldsRow H.Host.meaning self.new arena.new }
     {
         if self.opened {
             return Err(Fault::new(Refusal::AlreadyOpened));
@@ -76,7 +75,7 @@ impl<H: Host> Session<H> {
     fn bind_to(&mut self, arena: &mut [u8], wanted: &[Option<MysqlType>]) -> Result<Slip, Fault>
         requires unopened { self.old.opened ≡ false }
         requires short { length arena.old ≤ 65536 }
-        ensures { AfterOpening result (opening_due self.old.opened (length arena.old) (H.Host.meaning self.old.host).carries wanted.now (H.Host.meaning self.old.host).columns) (H.Host.meaning self.old.host) (H.Host.meaning self.new.host) self.old self.new arena.old arena.new }
+        ensures { Opens H.Host.meaning result wanted.now self.old self.new arena.old arena.new }
     {
         let pairs = bound_columns(&self.host, wanted)?;
         let table = place_columns(&mut self.host, &pairs, arena)?;
