@@ -105,7 +105,7 @@ same_answer s t h (time k) i = ap (λ (x : Result (Option Shown) Fault). time_sa
 -- something is bound where it is said so
 some_bound : (o : Option (List Column)) → is_some o ≡ true → (pairs : List Column) × (o ≡ Some pairs)
 some_bound (Some ps) e = (ps, refl)
-some_bound None e = let z : ◌≡◌ {A = ℕ} 0 1 = cc in absurd (omega arith)
+some_bound None e = cc
 
 -- a session that is about to be asked for a fetch, its columns bound and its next events known
 module _ (m : Meaning) (n : ℕ) (history : List Entry) (ideal : Ideal (start m n) history) (before rest : List Entry) (said : Said) (split : history ≡ before ++ record { asked = fetch; said = said } ∷ rest) (pairs : List Column) (bound : bound_after m before ≡ Some pairs) where

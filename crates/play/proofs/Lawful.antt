@@ -1,5 +1,5 @@
 -- What the ideal session says is lawful.
-use Rattle.std.proofs.Common.{◌≡◌, ℕ, Bool, true, false, ltb, List, [], ◌∷◌, ◌++◌, is_some, Some, None, Option, sym, refl, ap, ◌∙◌, subst, arith}
+use Rattle.std.proofs.Common.{◌≡◌, ℕ, Bool, true, false, ltb, List, [], ◌∷◌, ◌++◌, is_some, Some, None, Option, sym, refl, ap, ◌∙◌, subst}
 use Rattle.mysql.specs.declared.bind.Column.{Column}
 use Rattle.host.specs.Meanings.{Row, Event, Meaning}
 use Rattle.host.specs.Meanings as event
@@ -13,7 +13,7 @@ use Rattle.play.proofs.Runs.{run, later, earlier, says_due, rests, Went, from_st
 
 -- none is shown where it is said that none is
 pub none_shown : {X : Type 0} (o : Option X) → is_some o ≡ false → o ≡ None
-none_shown (Some x) e = let z : ◌≡◌ {A = ℕ} 0 1 = cc in absurd (omega arith)
+none_shown (Some x) e = cc
 none_shown None e = refl
 
 -- where a fetch says that a row is shown, columns are bound, a row was next, and it is what is shown
@@ -26,14 +26,14 @@ record RowNext (s : State) (b : Option (List Column)) (coming : List Event) : Ty
   shows : (n : ℕ) → row ≡ fetch_said (fetch_due b n coming) → shown_if (dues.fetched pairs n coming) coming ≡ Some fields
 
 row_shows : (loss : Option ℕ) (long : Bool) (r : Row) (es : List Event) → row ≡ fetch_said (dues.row_fetched loss long) → shown_if (dues.row_fetched loss long) (event.row r ∷ es) ≡ Some r
-row_shows (Some k) long r es e = let z : ◌≡◌ {A = ℕ} 0 1 = cc in absurd (omega arith)
-row_shows None true r es e = let z : ◌≡◌ {A = ℕ} 0 1 = cc in absurd (omega arith)
+row_shows (Some k) long r es e = cc
+row_shows None true r es e = cc
 row_shows None false r es e = refl
 
 row_next : (s : State) (n : ℕ) (b : Option (List Column)) (coming : List Event) → row ≡ fetch_said (fetch_due b n coming) → RowNext s b coming
-row_next s n None coming e = let z : ◌≡◌ {A = ℕ} 0 1 = cc in absurd (omega arith)
-row_next s n (Some pairs) [] e = let z : ◌≡◌ {A = ℕ} 0 1 = cc in absurd (omega arith)
-row_next s n (Some pairs) (event.failure k ∷ es) e = let z : ◌≡◌ {A = ℕ} 0 1 = cc in absurd (omega arith)
+row_next s n None coming e = cc
+row_next s n (Some pairs) [] e = cc
+row_next s n (Some pairs) (event.failure k ∷ es) e = cc
 row_next s n (Some pairs) (event.row r ∷ es) e =
     record { pairs = pairs; binds = refl; fields = r; rest = es; met = refl; shows = λ k f. row_shows (first_loss r 0 pairs) (ltb k (row_need r 0 pairs)) r es f }
 

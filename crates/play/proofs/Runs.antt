@@ -35,8 +35,8 @@ earlier s (e ∷ es) rest h = (h.0, earlier (after s e.asked) es rest h.1)
 
 -- a reading says what is due
 pub says_due : (s : State) (asked : Asked) (due : Said) → reading_due s.bound s.shown asked ≡ Some due → answer s asked ≡ due
-says_due s (opening wanted) due e = let z : ◌≡◌ {A = ℕ} 0 1 = cc in absurd (omega arith)
-says_due s fetch due e = let z : ◌≡◌ {A = ℕ} 0 1 = cc in absurd (omega arith)
+says_due s (opening wanted) due e = cc
+says_due s fetch due e = cc
 says_due s (reading k) due e = cc
 says_due s (integer k) due e = cc
 says_due s (big_integer k) due e = cc
@@ -58,17 +58,17 @@ rests s pairs b (e ∷ es) h = ap (λ (x : State). run x es) (stays s pairs b e.
 -- a granted opening binds the columns with the codes and flags that are due
 
 placed_same : (ps pairs : List Column) (long all : Bool) → cond long (Err (refused LayoutTooLong)) (cond all (Ok ps) (Err (host_failed unsupported_type))) ≡ Ok pairs → ps ≡ pairs
-placed_same ps pairs true all e = let z : ◌≡◌ {A = ℕ} 0 1 = cc in absurd (omega arith)
+placed_same ps pairs true all e = cc
 placed_same ps pairs false true e = cc
-placed_same ps pairs false false e = let z : ◌≡◌ {A = ℕ} 0 1 = cc in absurd (omega arith)
+placed_same ps pairs false false e = cc
 
 placed_binds : (n : ℕ) (carries : ℕ → ℕ → Bool) (pairs : List Column) (long : Bool) (b : Result (List Column) Fault) → cond long (Err (refused ArenaLength)) (next b (dues.placed n carries)) ≡ Ok pairs → b ≡ Ok pairs
-placed_binds n carries pairs true b e = let z : ◌≡◌ {A = ℕ} 0 1 = cc in absurd (omega arith)
+placed_binds n carries pairs true b e = cc
 placed_binds n carries pairs false (Ok ps) e = ap Ok (placed_same ps pairs (ltb n (opening_size ps)) (all_carried carries 0 ps) e)
-placed_binds n carries pairs false (Err f) e = let z : ◌≡◌ {A = ℕ} 0 1 = cc in absurd (omega arith)
+placed_binds n carries pairs false (Err f) e = cc
 
 pub opening_binds : (already : Bool) (n : ℕ) (carries : ℕ → ℕ → Bool) (wanted : List (Option MysqlType)) (columns pairs : List Column) → dues.opening already n carries wanted columns ≡ Ok pairs → bound wanted columns ≡ Ok pairs
-opening_binds true n carries wanted columns pairs e = let z : ◌≡◌ {A = ℕ} 0 1 = cc in absurd (omega arith)
+opening_binds true n carries wanted columns pairs e = cc
 opening_binds false n carries wanted columns pairs e = placed_binds n carries pairs (ltb dues.most_bytes n) (bound wanted columns) e
 
 -- What a part of a history did to the session, by what it granted, how many events it removed, and whether it shows a row.
@@ -99,7 +99,7 @@ opening_went : (s : State) (wanted : List (Option MysqlType)) (b : Option (List 
     → dues.opening (is_some b) s.arena s.carries wanted s.columns ≡ x
     → Went s (opening_at s x) (granted_by (opening wanted) (opening_said x)) 0 (is_some s.shown)
 opening_went s wanted b (Err f) e q d = stood s q
-opening_went s wanted (Some pairs) (Ok ps) e q d = let z : ◌≡◌ {A = ℕ} 0 1 = cc in absurd (omega arith)
+opening_went s wanted (Some pairs) (Ok ps) e q d = cc
 opening_went s wanted None (Ok ps) e q d =
     record {
       columns = refl;
@@ -163,7 +163,7 @@ step_went s (time k) q = stood s q
 
 first_some : {X : Type 0} (o p : Option X) → is_some o ≡ true → first_of o p ≡ o
 first_some (Some x) p e = refl
-first_some None p e = let z : ◌≡◌ {A = ℕ} 0 1 = cc in absurd (omega arith)
+first_some None p e = cc
 
 bound_joined : (columns : List Column) (b : Option (List Column)) (g h : Option (List (Option MysqlType))) → is_some (first_of b (bound_with columns g)) ≡ (is_some b || is_some g)
     → first_of (first_of b (bound_with columns g)) (bound_with columns h) ≡ first_of b (bound_with columns (first_of g h))

@@ -1,18 +1,21 @@
 -- What a fetch of an opened session meets.
-use Rattle.std.proofs.Common.{◌≡◌, ℕ, ◌<◌, Bool, true, false, ◌&&◌, eqb, ltb, List, ◌∷◌, length, get_or, Some, None, Ok, Err, Option, Result, sym, ap, ◌∙◌, subst, arith}
+use Rattle.std.proofs.Common.{◌≡◌, ℕ, ◌<◌, Bool, true, false, ◌&&◌, eqb, ltb, List, ◌∷◌, length, get_or, Some, None, Ok, Err, Option, Result, ◌⊎◌, ⊎_elim, sym, ap, ◌∙◌, subst, arith}
 use Rattle.std.proofs.lemmas.Bool.{eq-eqb}
 use Rattle.mysql.specs.declared.fault.Fault.{Fault}
 use Rattle.mysql.specs.Faults.{host_failed}
 use Rattle.host.specs.declared.records.BindRecord.{BindRecord}
 use Rattle.host.specs.declared.records.Report.{Report}
+use Rattle.host.specs.declared.records.Fetched.{Fetched}
+use Rattle.host.specs.declared.records.Fetched.TheVariants as fetched_as
 use Rattle.host.specs.Meanings.{Row, Event, row, failure, Meaning, RowFits, CurrentFits, Formed}
-use Rattle.host.specs.Calls.{no_record as no_bind, no_report, all_end_by, allows, InPlace, Untouched, Reported, Stands, field_of, FailureCame, RowCame}
+use Rattle.host.specs.Calls.{no_record as no_bind, no_report, all_end_by, allows, InPlace, Untouched, Reported, Stands, field_of, NotAllowed, FailureCame, RowCame, Fetches}
 use Rattle.layout.specs.declared.table.ColumnTable.{ColumnTable}
 use Rattle.layout.specs.Columns.{bind_of}
 use Rattle.layout.specs.Tables.{count_of, col, end, binds}
 use Rattle.layout.specs.Moves.{Beyond}
 use Rattle.layout.proofs.Binding.{binds_length, binds_at, binds_end_by, in_place_inside}
 use Rattle.rows.specs.declared.answers.Fetch.{Fetch}
+use Rattle.rows.proofs.Pairs.{not_both}
 use Rattle.session.specs.declared.state.Session.{Session}
 use Rattle.rows.specs.Bounds.{all_carried, row_need, first_loss}
 use Rattle.rows.specs.Dues.{row_fetched, fetched}
@@ -20,7 +23,7 @@ use Rattle.rows.specs.Standing.{pairs_of}
 use Rattle.session.specs.Sessions.{Sound, passes, fetch_answer, AfterFetch, RowRefused, RowMet}
 use Rattle.rows.specs.Settling.{RowGot, row_answer, Shows, Refuses}
 use Rattle.session.specs.Settled.{SettledIn}
-use Rattle.session.proofs.Shows.{past}
+use Rattle.session.proofs.Shows.{past, is_opened, is_as_long}
 
 -- bytes outside all places lie past their end
 pub past_end : (t : ColumnTable) (bs : List BindRecord) (a b : List ℕ) → bs ≡ binds t → Untouched bs a b → Beyond (end t) a b
@@ -30,23 +33,40 @@ past_end t bs a b e u p l = u.same_bytes p (λ h. let i = in_place_inside t p (s
 same_places : (xs ys : List BindRecord) (o : Option (List BindRecord)) → o ≡ Some xs → o ≡ Some ys → xs ≡ ys
 same_places xs ys o p q = let e : Some xs ≡ Some ys = sym p ∙ q in cc
 
+-- a row came, truncated or not
+pub row_came : (x : Fetched) (m m' : Meaning) (rs rs' : List Report) (a a' : List ℕ) → (x ≡ fetched_as.Row) ⊎ (x ≡ fetched_as.Truncated) → Fetches x m m' rs rs' a a' → (truncated : Bool) × RowCame truncated m m' rs rs' a a'
+row_came fetched_as.Row m m' rs rs' a a' e w = (false, w)
+row_came fetched_as.Truncated m m' rs rs' a a' e w = (true, w)
+row_came fetched_as.NoData m m' rs rs' a a' e w = ⊎_elim (λ (e : fetched_as.NoData ≡ fetched_as.Row). cc) (λ (e : fetched_as.NoData ≡ fetched_as.Truncated). cc) e
+row_came fetched_as.Failed m m' rs rs' a a' e w = ⊎_elim (λ (e : fetched_as.Failed ≡ fetched_as.Row). cc) (λ (e : fetched_as.Failed ≡ fetched_as.Truncated). cc) e
+
 row_current : (m : Meaning) (r : Row) → CurrentFits m m.current → m.current ≡ Some r → RowFits m r
 row_current m r h e = subst (CurrentFits m) e h
 
-module _ {H : Type 0} (m : Meaning) (s : Session H) (sound : Sound m s) (a : List ℕ) (opened : s.opened ≡ true) (long : length a ≡ s.table.room) where
+module _ {H : Type 0} (m : Meaning) (s : Session H) (sound : Sound m s) (a : List ℕ) (p : passes s a ≡ true) where
   abbrev t : ColumnTable
   t = s.table
+
+  opened : s.opened ≡ true
+  opened = is_opened s a p
+
+  long : length a ≡ t.room
+  long = is_as_long s a p
 
   -- the host allows the fetch
   pub allowed : (n : ℕ) → n ≡ count_of t → allows m (length a) n ≡ true
   allowed n e =
       ap (λ (o : Option (List BindRecord)). elim o [ Some bs ↦ all_end_by (length a) bs && eqb n (length m.columns) | None ↦ false ]) (sound.places opened)
-      ∙ ap (λ (b : Bool). b && eqb n (length m.columns)) (binds_end_by t (length a) (omega arith))
+      ∙ ap (λ (b : Bool). b && eqb n (length m.columns)) (binds_end_by t (length a) (omega (arith, long)))
       ∙ eq-eqb n (length m.columns) (e ∙ sound.as_many opened)
 
   answers : (coming : List Event) (x : Result Fetch Fault) → fetched (pairs_of t) (length a) coming ≡ x → m.coming ≡ coming → x ≡ fetch_answer s a m.coming
   answers coming x d e =
-      sym (ap (fetch_answer s a) e ∙ past s (length a) (fetched (pairs_of t) (length a) coming) opened (eq-eqb (length a) t.room long) ∙ d)
+      sym (ap (fetch_answer s a) e ∙ past s a p (fetched (pairs_of t) (length a) coming) ∙ d)
+
+  -- a fetch that is allowed and failed met a failure
+  pub failure_came : (m' : Meaning) (rs rs' : List Report) (a' : List ℕ) → length rs ≡ count_of t → NotAllowed m m' rs rs' a a' ⊎ FailureCame m m' rs rs' a a' → FailureCame m m' rs rs' a a'
+  failure_came m' rs rs' a' e w = ⊎_elim (λ n. not_both (allows m (length a) (length rs)) (allowed (length rs) e) n.refused) (λ f. f) w
 
   -- a failure
   module _ (m' : Meaning) (rs rs' : List Report) (a' : List ℕ) (w : FailureCame m m' rs rs' a a') where
@@ -131,7 +151,3 @@ module _ {H : Type 0} (m : Meaning) (s : Session H) (sound : Sound m s) (a : Lis
       pub row_after : (x : Result Fetch Fault) → SettledIn m' w.fields s1 a' x m'' s' a'' → AfterFetch m.coming x m m'' s s' a a''
       row_after (Ok x) z = subst (λ (es : List Event). AfterFetch es (Ok x) m m'' s s' a a'') (sym w.next) (met x z)
       row_after (Err f) z = subst (λ (es : List Event). AfterFetch es (Err f) m m'' s s' a a'') (sym w.next) (not_met f z)
-
--- the two checks
-pub passes_both : {H : Type 0} (s : Session H) (a : List ℕ) → s.opened ≡ true → length a ≡ s.table.room → passes s a ≡ true
-passes_both s a o l = ap (λ (b : Bool). b && eqb (length a) s.table.room) o ∙ eq-eqb (length a) s.table.room l

@@ -1,6 +1,5 @@
 -- What a fetch keeps: the tie between a session and its host, and that a shown row stands in the arena.
-use Rattle.std.proofs.Common.{◌≡◌, ℕ, Bool, true, false, cond, eqb, List, [], ◌∷◌, length, Some, None, Ok, Err, Result, sym, ap, ◌∙◌, subst, ⊎_elim, arith}
-use Rattle.std.proofs.lemmas.Bool.{cases_Bool, and_parts}
+use Rattle.std.proofs.Common.{◌≡◌, ℕ, Bool, true, false, cond, List, [], ◌∷◌, length, Some, None, Ok, Err, Result, sym, ap, ◌∙◌, subst, arith}
 use Rattle.mysql.specs.declared.fault.Fault.{Fault}
 use Rattle.host.specs.Meanings.{Row, Event, row, failure, Meaning}
 use Rattle.layout.specs.declared.table.ColumnTable.{ColumnTable}
@@ -9,10 +8,14 @@ use Rattle.rows.specs.declared.answers.Fetch.{Fetch}
 use Rattle.session.specs.declared.state.Session.{Session}
 use Rattle.rows.specs.Bounds.{all_carried, field_at}
 use Rattle.rows.specs.Standing.{pair_of, pairs_of, StandsWhole}
-use Rattle.session.specs.Sessions.{Sound, Holds, passes, host_after, NotFetched, AfterFetch}
+use Rattle.session.specs.Sessions.{Sound, Holds, passes, host_after, AfterFetch}
 use Rattle.rows.proofs.Pairs.{not_both}
+use Rattle.session.proofs.Shows.{is_opened}
 
-module _ {H : Type 0} (m m' : Meaning) (s s' : Session H) (sound : Sound m s) (opened : s.opened ≡ true) where
+module _ {H : Type 0} (m m' : Meaning) (s s' : Session H) (sound : Sound m s) (a : List ℕ) (p : passes s a ≡ true) where
+  opened : s.opened ≡ true
+  opened = is_opened s a p
+
   -- where the columns stay as they are bound, and the host is bound to the places
   kept_sound : m'.columns ≡ m.columns → m'.carries ≡ m.carries → m'.bound ≡ Some (binds s'.table) → count_of s'.table ≡ count_of s.table → pairs_of s'.table ≡ pairs_of s.table
       → s'.opened ≡ true → (s'.shown ≡ true → m'.current ≡ None → ⊥) → Sound m' s'
@@ -30,22 +33,22 @@ module _ {H : Type 0} (m m' : Meaning) (s s' : Session H) (sound : Sound m s) (o
       (ap (λ (x : Meaning). x.bound) h ∙ sound.places opened ∙ ap (λ (t : ColumnTable). Some (binds t)) (sym e))
       (ap (λ (t : ColumnTable). count_of t) e) (ap pairs_of e) o (λ p. not_both s'.shown p no_row)
 
-  after_sound : (a a' : List ℕ) (es : List Event) (x : Result Fetch Fault) → AfterFetch es x m m' s s' a a' → Sound m' s'
-  after_sound a a' [] x w = same_table w.table [] 0 w.host w.opened w.no_row
-  after_sound a a' (failure n ∷ rest) x w = same_table w.table rest n w.host w.opened w.no_row
-  after_sound a a' (row r ∷ rest) (Ok x) w =
+  pub after_sound : (a' : List ℕ) (es : List Event) (x : Result Fetch Fault) → AfterFetch es x m m' s s' a a' → Sound m' s'
+  after_sound a' [] x w = same_table w.table [] 0 w.host w.opened w.no_row
+  after_sound a' (failure n ∷ rest) x w = same_table w.table rest n w.host w.opened w.no_row
+  after_sound a' (row r ∷ rest) (Ok x) w =
       kept_sound (ap (λ (z : Meaning). z.columns) w.host) (ap (λ (z : Meaning). z.carries) w.host) (ap (λ (z : Meaning). z.bound) w.host) w.table.count w.table.pairs w.opened
-      (λ p e. let q : None ≡ Some r = sym e ∙ ap (λ (z : Meaning). z.current) w.host in let z : ◌≡◌ {A = ℕ} 0 1 = cc in absurd (omega arith))
-  after_sound a a' (row r ∷ rest) (Err f) w =
+      (λ p e. let q : None ≡ Some r = sym e ∙ ap (λ (z : Meaning). z.current) w.host in cc)
+  after_sound a' (row r ∷ rest) (Err f) w =
       kept_sound (ap (λ (z : Meaning). z.columns) w.host) (ap (λ (z : Meaning). z.carries) w.host)
       (ap (λ (z : Meaning). z.bound) w.host ∙ sound.places opened ∙ ap Some (sym w.places.binds_same))
       w.places.count w.pairs w.opened (λ p. not_both s'.shown p w.no_row)
 
 -- where no row is shown there is nothing to hold
 unshown : {H : Type 0} (m : Meaning) (s : Session H) (a : List ℕ) → s.shown ≡ false → Holds m s a
-unshown m s a e = record { whole = λ r q k l. let z : None ≡ Some r = sym (ap (λ (b : Bool). cond b m.current None) e) ∙ q in let y : ◌≡◌ {A = ℕ} 0 1 = cc in absurd (omega arith) }
+unshown m s a e = record { whole = λ r q k l. let z : None ≡ Some r = sym (ap (λ (b : Bool). cond b m.current None) e) ∙ q in cc }
 
-after_holds : {H : Type 0} (m m' : Meaning) (s s' : Session H) (a a' : List ℕ) (es : List Event) (x : Result Fetch Fault) → AfterFetch es x m m' s s' a a' → Holds m' s' a'
+pub after_holds : {H : Type 0} (m m' : Meaning) (s s' : Session H) (a a' : List ℕ) (es : List Event) (x : Result Fetch Fault) → AfterFetch es x m m' s s' a a' → Holds m' s' a'
 after_holds m m' s s' a a' [] x w = unshown m' s' a' w.no_row
 after_holds m m' s s' a a' (failure n ∷ rest) x w = unshown m' s' a' w.no_row
 after_holds m m' s s' a a' (row r ∷ rest) (Err f) w = unshown m' s' a' w.no_row
@@ -57,21 +60,3 @@ after_holds m m' s s' a a' (row r ∷ rest) (Ok x) w = record {
       let n = w.table.count in
       subst (λ (y : Row). StandsWhole (field_at y k (pair_of (col s'.table k))) (col s'.table k) a') same (w.whole k (omega arith));
 }
-
-module _ {H : Type 0} (means : H → Meaning) (s s' : Session H) (a a' : List ℕ) (x : Result Fetch Fault)
-    (unchecked : passes s a ≡ false → NotFetched s s' a a')
-    (after : Sound (means s.host) s → passes s a ≡ true → AfterFetch (means s.host).coming x (means s.host) (means s'.host) s s' a a')
-    (sound : Sound (means s.host) s) where
-  pub stays_sound : Sound (means s'.host) s'
-  stays_sound = ⊎_elim
-      (λ (p : passes s a ≡ true). after_sound (means s.host) (means s'.host) s s' sound (and_parts s.opened (eqb (length a) s.table.room) p).0 a a' (means s.host).coming x (after sound p))
-      (λ (p : passes s a ≡ false). subst (λ (z : Session H). Sound (means z.host) z) (sym (unchecked p).same) sound)
-      (cases_Bool (passes s a))
-
-  pub stays_held : Holds (means s.host) s a → Holds (means s'.host) s' a'
-  stays_held h = ⊎_elim
-      (λ (p : passes s a ≡ true). after_holds (means s.host) (means s'.host) s s' a a' (means s.host).coming x (after sound p))
-      (λ (p : passes s a ≡ false).
-      subst (λ (b : List ℕ). Holds (means s'.host) s' b) (sym (unchecked p).same_arena)
-      (subst (λ (z : Session H). Holds (means z.host) z a) (sym (unchecked p).same) h))
-      (cases_Bool (passes s a))

@@ -1,19 +1,19 @@
 -- What an opening keeps: the tie between a session and its host, and what stands in the arena.
-use Rattle.std.proofs.Common.{◌≡◌, ℕ, suc, ◌<◌, Bool, true, false, cond, ltb, List, [], ◌∷◌, length, Some, None, Ok, Err, Option, Result, sym, refl, ap, ◌∙◌, subst, arith}
+use Rattle.std.proofs.Common.{◌≡◌, ℕ, ◌<◌, Bool, true, false, cond, ltb, List, length, Some, None, Ok, Err, Option, Result, sym, refl, ap, ◌∙◌, subst}
 use Rattle.mysql.specs.declared.backend.MysqlType.{MysqlType}
 use Rattle.mysql.specs.declared.bind.Column.{Column}
 use Rattle.mysql.specs.declared.fault.Fault.{Fault}
 use Rattle.mysql.specs.declared.fault.Refusal.TheVariants.{ArenaLength, LayoutTooLong}
 use Rattle.mysql.specs.Answers.{next}
 use Rattle.mysql.specs.Faults.{refused, host_failed}
-use Rattle.mysql.specs.Taken.{taken_pair}
 use Rattle.host.specs.Meanings.{Meaning}
 use Rattle.layout.specs.declared.table.ColumnTable.{ColumnTable}
 use Rattle.layout.specs.Tables.{count_of, col, binds, opening_size}
 use Rattle.rows.proofs.Pairs.{not_both}
 use Rattle.session.specs.declared.answers.Slip.{Slip}
 use Rattle.session.specs.declared.state.Session.{Session}
-use Rattle.rows.specs.Bounds.{wanted_of, with_pair, bound_from, bound, all_carried, field_at}
+use Rattle.rows.specs.Bounds.{bound, all_carried, field_at}
+use Rattle.session.proofs.Binds.{bound_long}
 use Rattle.rows.specs.Dues.{most_bytes, placed, opening}
 use Rattle.rows.specs.Standing.{pair_of, pairs_of, StandsWhole}
 use Rattle.session.specs.Sessions.{Sound, Holds, shown_row, Opened, NotOpened, AfterOpening}
@@ -49,7 +49,7 @@ module _ {H : Type 0} (m m' : Meaning) (s s' : Session H) (a a' : List ℕ) wher
   }
 
   granted_holds : (pairs : List Column) → Opened m m' s s' pairs a a' → Holds m' s' a'
-  granted_holds pairs o = record { whole = λ r e k l. let q : None ≡ Some r = sym (ap (λ (b : Bool). cond b m'.current None) o.no_row) ∙ e in let z : ◌≡◌ {A = ℕ} 0 1 = cc in absurd (omega arith) }
+  granted_holds pairs o = record { whole = λ r e k l. let q : None ≡ Some r = sym (ap (λ (b : Bool). cond b m'.current None) o.no_row) ∙ e in cc }
 
   pub still_holds : (r : Result Slip Fault) (x : Result (List Column) Fault) → AfterOpening r x m m' s s' a a' → Holds m s a → Holds m' s' a'
   still_holds (Ok slip) (Ok pairs) w h = granted_holds pairs w
@@ -65,31 +65,21 @@ module _ {H : Type 0} (m m' : Meaning) (s s' : Session H) (a a' : List ℕ) wher
 
 -- the columns of a granted opening are carried, and as many as the result has
 
-one_more : (k n : ℕ) (t : Result (ℕ × ℕ) Fault) (rest : Result (List Column) Fault) (pairs : List Column) → ((ps : List Column) → rest ≡ Ok ps → length ps ≡ n) → with_pair k t rest ≡ Ok pairs → length pairs ≡ suc n
-one_more k n (Ok p) (Ok ps) pairs long e = let same : record { code = p.0; flags = p.1 } ∷ ps ≡ pairs = cc in sym (ap length same) ∙ ap suc (long ps refl)
-one_more k n (Ok p) (Err f) pairs long e = let z : ◌≡◌ {A = ℕ} 0 1 = cc in absurd (omega arith)
-one_more k n (Err f) rest pairs long e = let z : ◌≡◌ {A = ℕ} 0 1 = cc in absurd (omega arith)
-
-bound_long : (wanted : List (Option MysqlType)) (k : ℕ) (cs pairs : List Column) → bound_from wanted k cs ≡ Ok pairs → length pairs ≡ length cs
-bound_long wanted k [] [] e = refl
-bound_long wanted k [] (p ∷ ps) e = let z : ◌≡◌ {A = ℕ} 0 1 = cc in absurd (omega arith)
-bound_long wanted k (c ∷ cs) pairs e = one_more k (length cs) (taken_pair (wanted_of wanted k) c.code c.flags) (bound_from wanted (suc k) cs) pairs (bound_long wanted (suc k) cs) e
-
 placed_says : (n : ℕ) (carries : ℕ → ℕ → Bool) (ps pairs : List Column) (long all : Bool) → all_carried carries 0 ps ≡ all
     → cond long (Err (refused LayoutTooLong)) (cond all (Ok ps) (Err (host_failed 2036))) ≡ Ok pairs → (ps ≡ pairs) × (all ≡ true)
-placed_says n carries ps pairs true all q e = let z : ◌≡◌ {A = ℕ} 0 1 = cc in absurd (omega arith)
+placed_says n carries ps pairs true all q e = cc
 placed_says n carries ps pairs false true q e = (cc, refl)
-placed_says n carries ps pairs false false q e = let z : ◌≡◌ {A = ℕ} 0 1 = cc in absurd (omega arith)
+placed_says n carries ps pairs false false q e = cc
 
 pub opening_says : (opened : Bool) (n : ℕ) (carries : ℕ → ℕ → Bool) (wanted : List (Option MysqlType)) (cs pairs : List Column) → opening opened n carries wanted cs ≡ Ok pairs
     → (all_carried carries 0 pairs ≡ true) × (length pairs ≡ length cs)
-opening_says true n carries wanted cs pairs e = let z : ◌≡◌ {A = ℕ} 0 1 = cc in absurd (omega arith)
+opening_says true n carries wanted cs pairs e = cc
 opening_says false n carries wanted cs pairs e = by_length (ltb most_bytes n) (bound wanted cs) refl e
   where
     by_length : (long : Bool) (b : Result (List Column) Fault) → bound wanted cs ≡ b → cond long (Err (refused ArenaLength)) (next b (placed n carries)) ≡ Ok pairs
         → (all_carried carries 0 pairs ≡ true) × (length pairs ≡ length cs)
-    by_length true b q e = let z : ◌≡◌ {A = ℕ} 0 1 = cc in absurd (omega arith)
-    by_length false (Err f) q e = let z : ◌≡◌ {A = ℕ} 0 1 = cc in absurd (omega arith)
+    by_length true b q e = cc
+    by_length false (Err f) q e = cc
     by_length false (Ok ps) q e =
         let p = placed_says n carries ps pairs (ltb n (opening_size ps)) (all_carried carries 0 ps) refl e in
         (sym (ap (all_carried carries 0) p.0) ∙ p.1, sym (ap length p.0) ∙ bound_long wanted 0 cs ps q)

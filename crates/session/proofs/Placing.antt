@@ -1,6 +1,6 @@
 -- The columns of an opening: what the host answers to their places.
-use Rattle.std.proofs.Common.{◌≡◌, ℕ, ◌<◌, ◌≤◌, Bool, true, false, cond, eqb, ltb, List, length, Some, Ok, Err, Option, Result, sym, refl, ap, ◌∙◌, arith}
-use Rattle.std.proofs.lemmas.List.{ext_get_or}
+use Rattle.std.proofs.Common.{◌≡◌, ℕ, ◌<◌, ◌≤◌, Bool, true, false, cond, eqb, ltb, List, ◌++◌, ◌-◌, ◌+◌, length, get_or, take, drop, replicate, Some, Ok, Err, Option, Result, sym, refl, ap, ◌∙◌, arith}
+use Rattle.std.proofs.lemmas.List.{ext_get_or, get_or_append_left, get_or-append_right, get_or-replicate, get_or-drop, length-replicate, length-take-le}
 use Rattle.std.proofs.lemmas.Bool.{le-ltb}
 use Rattle.mysql.specs.declared.bind.Column.{Column}
 use Rattle.mysql.specs.declared.fault.Fault.{Fault}
@@ -12,6 +12,7 @@ use Rattle.host.specs.declared.records.BindRecord.{BindRecord}
 use Rattle.host.specs.Meanings.{Meaning}
 use Rattle.host.specs.Calls.{with_error, bind_error, bound_list, after_bind}
 use Rattle.layout.specs.declared.table.ColumnTable.{ColumnTable}
+use Rattle.layout.specs.Moves.{Beyond}
 use Rattle.layout.specs.Tables.{no_pair, binds, opening_size, OpeningTable}
 use Rattle.rows.specs.Bounds.{all_carried, bound}
 use Rattle.rows.specs.Dues.{most_bytes, placed, opening}
@@ -23,16 +24,31 @@ pairs_are pairs n t o =
     ext_get_or no_pair (pairs_of t) pairs (pairs_length t ∙ o.as_many)
     (λ k l. let m : k < length pairs = omega (arith, pairs_length t, o.as_many) in pair_at t k (omega (arith, o.as_many)) ∙ ap pair_of (o.each k m))
 
+-- the front of an arena, zeroed
+module _ (a front : List ℕ) (n : ℕ) (l : n ≤ length a) (e : front ≡ replicate (length (take n a)) 0) where
+  as_long : length front ≡ n
+  as_long = ap length e ∙ length-replicate (length (take n a)) 0 ∙ length-take-le n a l
+
+  pub zeroed_front : (p : ℕ) → p < n → get_or (front ++ drop n a) p 0 ≡ 0
+  zeroed_front p h =
+      get_or_append_left front (drop n a) 0 p (omega (arith, as_long)) ∙ ap (λ (bs : List ℕ). get_or bs p 0) e
+      ∙ get_or-replicate (length (take n a)) p 0 0 (omega (arith, length-take-le n a l))
+
+  pub kept_behind : Beyond n a (front ++ drop n a)
+  kept_behind p h =
+      get_or-append_right front (drop n a) n p 0 as_long h ∙ get_or-drop n a (p - n) 0
+      ∙ (let there : n + (p - n) ≡ p = omega arith in ap (λ (k : ℕ). get_or a k 0) there)
+
 -- places that fit the arena
 pub fits_arena : (n : ℕ) (carries : ℕ → ℕ → Bool) (pairs : List Column) → opening_size pairs ≤ n → placed n carries pairs ≡ cond (all_carried carries 0 pairs) (Ok pairs) (Err (host_failed 2036))
 fits_arena n carries pairs l = ap (λ (b : Bool). cond b (Err (refused LayoutTooLong)) (cond (all_carried carries 0 pairs) (Ok pairs) (Err (host_failed 2036)))) (le-ltb n (opening_size pairs) l)
 
 bind_yes : (b : Bool) → eqb (cond b 0 2036) 0 ≡ true → b ≡ true
 bind_yes true e = refl
-bind_yes false e = let z : ◌≡◌ {A = ℕ} 0 1 = cc in absurd (omega arith)
+bind_yes false e = cc
 
 bind_no : (b : Bool) → eqb (cond b 0 2036) 0 ≡ false → b ≡ false
-bind_no true e = let z : ◌≡◌ {A = ℕ} 0 1 = cc in absurd (omega arith)
+bind_no true e = cc
 bind_no false e = refl
 
 module _ (m m' : Meaning) (pairs : List Column) (n : ℕ) (t : ColumnTable) (records : List BindRecord) (r : Bool)
@@ -61,7 +77,7 @@ module _ (m m' : Meaning) (pairs : List Column) (n : ℕ) (t : ColumnTable) (rec
     missing : all_carried m.carries 0 pairs ≡ false
     missing = bind_no (all_carried m.carries 0 pairs) (sym (ap (λ (e : ℕ). eqb e 0) error_is) ∙ sym answer ∙ no)
 
-    an_error : bind_error m records ≡ 2036
+    pub an_error : bind_error m records ≡ 2036
     an_error = error_is ∙ ap (λ (b : Bool). cond b 0 2036) missing
 
     pub refused_host : m' ≡ with_error 2036 m

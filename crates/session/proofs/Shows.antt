@@ -1,12 +1,12 @@
 -- What a reading finds in a column's place.
-use Rattle.std.proofs.Common.{◌≡◌, ℕ, ◌+◌, ◌<◌, ◌≤◌, Bool, true, false, cond, eqb, ltb, List, length, get_or, take, drop, Some, None, Ok, Err, Option, Result, sym, refl, ap, ◌∙◌, arith}
+use Rattle.std.proofs.Common.{◌≡◌, ℕ, ◌+◌, ◌<◌, ◌≤◌, Bool, true, false, cond, ◌&&◌, eqb, ltb, List, length, get_or, take, drop, Some, None, Ok, Err, Option, Result, MatchResult, IsErrAnd, MatchOption, IsSomeAnd, sym, refl, ap, ◌∙◌, arith}
 use Rattle.std.proofs.lemmas.List.{get_or-take, get_or-drop, length-take, length-drop, ext_get_or}
 use Rattle.std.proofs.lemmas.Bool.{and_parts, eqb-true, lt-ltb, ltb-true}
 use Rattle.mysql.specs.declared.backend.MysqlType.{MysqlType}
 use Rattle.mysql.specs.declared.bind.Column.{Column}
 use Rattle.mysql.specs.declared.fault.Fault.{Fault}
 use Rattle.mysql.specs.declared.fault.Refusal.TheVariants.{Unopened, ArenaLength, NoSuchColumn, NoCurrentRow}
-use Rattle.mysql.specs.Faults.{refused}
+use Rattle.mysql.specs.Faults.{refused, at_column}
 use Rattle.mysql.specs.Types.{type_of}
 use Rattle.host.specs.Fields.{Field, null, held}
 use Rattle.host.specs.Meanings.{Row, Meaning}
@@ -17,44 +17,90 @@ use Rattle.layout.specs.Tables.{count_of, col, start}
 use Rattle.layout.proofs.Spans.{inside}
 use Rattle.rows.proofs.Pairs.{pairs_length, pair_at}
 use Rattle.session.specs.declared.state.Session.{Session}
+use Rattle.session.specs.declared.state.Value.{Value}
+use Rattle.readings.specs.declared.value.MysqlValue.{MysqlValue}
+use Rattle.readings.specs.Nulls.{nullable}
 use Rattle.rows.specs.Bounds.{field_at}
-use Rattle.rows.specs.Dues.{typed, field_shown, row_shown, read}
+use Rattle.rows.specs.Dues.{faulted, read_as, typed, field_shown, row_shown, read}
 use Rattle.rows.specs.Standing.{pair_of, pairs_of, StandsWhole}
-use Rattle.session.specs.Sessions.{Sound, Holds, shown_row, passes, past_checks, record_shown, reading}
+use Rattle.session.specs.Sessions.{Sound, Holds, shown_row, passes, past_checks, record_shown, reading, viewed}
+
+-- a fault that names a column
+pub fault_at : {X : Type 0} (k : ℕ) (P : Fault → Fault → Type 0) → ((e f : Fault) → P e f → f ≡ at_column e k) → (r q : Result X Fault) → MatchResult r (λ x. q ≡ Ok x) (λ e. IsErrAnd q (P e)) → q ≡ faulted k r
+fault_at k P said (Ok x) q h = h
+fault_at k P said (Err e) (Ok x) h = absurd h
+fault_at k P said (Err e) (Err f) h = ap Err (said e f h)
+
+pub kind_is : {X : Type 0} (k : ℕ) (r : Result X Fault) (x : X) → faulted k r ≡ Ok x → r ≡ Ok x
+kind_is k (Ok y) x e = e
+kind_is k (Err f) x e = cc
+
+-- what is read of a value that is shown
+pub raw_of : Option Value → Option MysqlValue
+raw_of None = None
+raw_of (Some v) = Some v.value
+
+pub raw_is : (P : Value → MysqlValue → Type 0) → ((v : Value) (x : MysqlValue) → P v x → x ≡ v.value) → (o : Option Value) (q : Option MysqlValue) → MatchOption o (q ≡ None) (λ v. IsSomeAnd q (P v)) → q ≡ raw_of o
+unfolding raw_of
+raw_is P said None q h = h
+raw_is P said (Some v) None h = absurd h
+raw_is P said (Some v) (Some x) h = ap Some (said v x h)
+
+nullable_is : {X : Type 0} (reads : MysqlType → List ℕ → Result X Fault) (k : ℕ) (o : Option Value) → faulted k (nullable reads (raw_of o)) ≡ read_as reads k (Ok (viewed o))
+unfolding raw_of
+nullable_is reads k None = refl
+nullable_is reads k (Some v) = refl
+
+pub typed_is : {X : Type 0} (reads : MysqlType → List ℕ → Result X Fault) (k : ℕ) (o : Option Value) (v : Option MysqlValue) (x : Result X Fault) → v ≡ raw_of o → x ≡ nullable reads v → faulted k x ≡ read_as reads k (Ok (viewed o))
+typed_is reads k o v x p q = ap (faulted k) (q ∙ ap (nullable reads) p) ∙ nullable_is reads k o
 
 -- a value that fits its place ends inside the arena
 pub bytes_inside : (t : ColumnTable) (k : ℕ) → k < count_of t → Fits (col t k) → (col t k).is_null ≡ false → start t k + bytes_of (col t k) ≤ t.room
 bytes_inside t k l fit e = omega (arith, inside t k l, fit e, t.within)
 
-both_passed : {X : Type 0} (opened same : Bool) (x y : X) → cond opened (cond same (Ok x) (Err (refused ArenaLength))) (Err (refused Unopened)) ≡ Ok y → (opened ≡ true) × (same ≡ true)
-both_passed true true x y e = (refl, refl)
-both_passed true false x y e = let z : ◌≡◌ {A = ℕ} 0 1 = cc in absurd (omega arith)
-both_passed false same x y e = let z : ◌≡◌ {A = ℕ} 0 1 = cc in absurd (omega arith)
+both_passed : {X : Type 0} (opened same : Bool) (x y : X) → cond opened (cond same (Ok x) (Err (refused ArenaLength))) (Err (refused Unopened)) ≡ Ok y → (opened && same) ≡ true
+both_passed true true x y e = refl
+both_passed true false x y e = cc
+both_passed false same x y e = cc
 
-module _ {H X : Type 0} (s : Session H) (n : ℕ) (x y : X) (e : past_checks s n (Ok x) ≡ Ok y) where
+not_both_passed : {X : Type 0} (opened same : Bool) (x : X) (f : Fault) → cond opened (cond same (Ok x) (Err (refused ArenaLength))) (Err (refused Unopened)) ≡ Err f → (opened && same) ≡ false
+not_both_passed true true x f e = cc
+not_both_passed true false x f e = refl
+not_both_passed false same x f e = refl
+
+-- the two checks
+module _ {H X : Type 0} (s : Session H) (a : List ℕ) (x y : X) where
+  pub passed : past_checks s (length a) (Ok x) ≡ Ok y → passes s a ≡ true
+  passed e = both_passed s.opened (eqb (length a) s.table.room) x y e
+
+  pub not_passed : (f : Fault) → past_checks s (length a) (Ok x) ≡ Err f → passes s a ≡ false
+  not_passed f e = not_both_passed s.opened (eqb (length a) s.table.room) x f e
+
+module _ {H : Type 0} (s : Session H) (a : List ℕ) (p : passes s a ≡ true) where
   pub is_opened : s.opened ≡ true
-  is_opened = (both_passed s.opened (eqb n s.table.room) x y e).0
+  is_opened = (and_parts s.opened (eqb (length a) s.table.room) p).0
 
-  pub is_as_long : n ≡ s.table.room
-  is_as_long = eqb-true n s.table.room (both_passed s.opened (eqb n s.table.room) x y e).1
+  pub is_as_long : length a ≡ s.table.room
+  is_as_long = eqb-true (length a) s.table.room (and_parts s.opened (eqb (length a) s.table.room) p).1
 
--- checks that pass leave what comes after them
-pub past : {H X : Type 0} (s : Session H) (n : ℕ) (x : Result X Fault) → s.opened ≡ true → eqb n s.table.room ≡ true → past_checks s n x ≡ x
-past s n x p q =
-    ap (λ (b : Bool). cond b (cond (eqb n s.table.room) x (Err (refused ArenaLength))) (Err (refused Unopened))) p
-    ∙ ap (λ (b : Bool). cond b x (Err (refused ArenaLength))) q
+  -- checks that pass leave what comes after them
+  pub past : {X : Type 0} (x : Result X Fault) → past_checks s (length a) x ≡ x
+  past x =
+      let q = and_parts s.opened (eqb (length a) s.table.room) p in
+      ap (λ (b : Bool). cond b (cond (eqb (length a) s.table.room) x (Err (refused ArenaLength))) (Err (refused Unopened))) q.0
+      ∙ ap (λ (b : Bool). cond b x (Err (refused ArenaLength))) q.1
 
 -- bytes that are read where a row is shown and the column is not null
 module _ {H : Type 0} (s : Session H) (a : List ℕ) (k : ℕ) where
-  pub reads_bytes : (tpe : MysqlType) (bytes : List ℕ) → s.opened ≡ true → eqb (length a) s.table.room ≡ true → k < count_of s.table → s.shown ≡ true
+  pub reads_bytes : (tpe : MysqlType) (bytes : List ℕ) → passes s a ≡ true → k < count_of s.table → s.shown ≡ true
       → (col s.table k).is_null ≡ false → type_of (col s.table k).code (col s.table k).flags ≡ Ok tpe
       → bytes ≡ take (bytes_of (col s.table k)) (drop (start s.table k) a)
       → Ok (Some (record { tpe = tpe; bytes = bytes })) ≡ reading s a k
-  reads_bytes tpe bytes p q l h n t b =
+  reads_bytes tpe bytes p l h n t b =
       let c = col s.table k in
       let there = take (bytes_of c) (drop c.start a) in
       sym (
-      past s (length a) (cond (ltb k (count_of s.table)) (cond s.shown (record_shown k c a) (Err (refused NoCurrentRow))) (Err (refused NoSuchColumn))) p q
+      past s a p (cond (ltb k (count_of s.table)) (cond s.shown (record_shown k c a) (Err (refused NoCurrentRow))) (Err (refused NoSuchColumn)))
       ∙ ap (λ (z : Bool). cond z (cond s.shown (record_shown k c a) (Err (refused NoCurrentRow))) (Err (refused NoSuchColumn))) (lt-ltb k (count_of s.table) l)
       ∙ ap (λ (z : Bool). cond z (record_shown k c a) (Err (refused NoCurrentRow))) h
       ∙ ap (λ (z : Bool). cond z (Ok None) (typed k there (type_of c.code c.flags))) n
@@ -75,19 +121,22 @@ whole_shown k c (held lost bs) a i w =
     ap (λ (z : Bool). cond z (Ok None) (typed k (take (bytes_of c) (drop c.start a)) (type_of c.code c.flags))) w.0
     ∙ ap (λ (z : List ℕ). typed k z (type_of c.code c.flags)) (part_is bs a c.start (bytes_of c) w.1 (i w.0) w.2)
 
-module _ {H : Type 0} (m : Meaning) (s : Session H) (a : List ℕ) (k : ℕ) (sound : Sound m s) (holds : Holds m s a) (long : length a ≡ s.table.room) where
+module _ {H : Type 0} (m : Meaning) (s : Session H) (a : List ℕ) (k : ℕ) (sound : Sound m s) (holds : Holds m s a) (p : passes s a ≡ true) where
   abbrev t : ColumnTable
   t = s.table
+
+  long : length a ≡ t.room
+  long = is_as_long s a p
 
   -- by the row that is shown
   by_row : k < count_of t → (o : Option Row) (b : Bool) → s.shown ≡ b → shown_row m s ≡ o → cond b m.current None ≡ o
       → cond b (record_shown k (col t k) a) (Err (refused NoCurrentRow)) ≡ row_shown (pairs_of t) o k
   by_row l None true hs e q = absurd (sound.a_row hs q)
   by_row l None false hs e q = refl
-  by_row l (Some r) false hs e q = let z : ◌≡◌ {A = ℕ} 0 1 = cc in absurd (omega arith)
+  by_row l (Some r) false hs e q = cc
   by_row l (Some r) true hs e q =
       let c = col t k in
-      let i : c.is_null ≡ false → c.start + bytes_of c ≤ length a = λ n. omega (arith, bytes_inside t k l (s.fit hs k l) n) in
+      let i : c.is_null ≡ false → c.start + bytes_of c ≤ length a = λ n. omega (arith, long, bytes_inside t k l (s.fit hs k l) n) in
       whole_shown k c (field_at r k (pair_of c)) a i (holds.whole r e k l)
       ∙ ap (λ (p : Column). field_shown k p (field_at r k p)) (sym (pair_at t k l))
 
@@ -95,9 +144,8 @@ module _ {H : Type 0} (m : Meaning) (s : Session H) (a : List ℕ) (k : ℕ) (so
   by_column true e = by_row (ltb-true k (count_of t) e) (shown_row m s) s.shown refl refl refl
   by_column false e = refl
 
-  pub reads_row : passes s a ≡ true → reading s a k ≡ read (pairs_of t) (shown_row m s) k
-  reads_row p =
-      let q = and_parts s.opened (eqb (length a) t.room) p in
-      past s (length a) (cond (ltb k (count_of t)) (cond s.shown (record_shown k (col t k) a) (Err (refused NoCurrentRow))) (Err (refused NoSuchColumn))) q.0 q.1
+  pub reads_row : reading s a k ≡ read (pairs_of t) (shown_row m s) k
+  reads_row =
+      past s a p (cond (ltb k (count_of t)) (cond s.shown (record_shown k (col t k) a) (Err (refused NoCurrentRow))) (Err (refused NoSuchColumn)))
       ∙ by_column (ltb k (count_of t)) refl
       ∙ ap (λ (n : ℕ). cond (ltb k n) (row_shown (pairs_of t) (shown_row m s) k) (Err (refused NoSuchColumn))) (sym (pairs_length t))

@@ -1,5 +1,6 @@
 -- A session and its host: how they agree, and what each call leaves.
 use Rattle.std.specs.Prelude.{◌≡◌, ℕ, ◌<◌, ◌≤◌, Bool, true, false, cond, ◌&&◌, List, [], ◌∷◌, length, take, drop, Some, None, Ok, Err, Option, Result, ◌==◌, ◌≢◌, nat_lt, slice_index}
+use Rattle.mysql.specs.declared.backend.MysqlType.{MysqlType}
 use Rattle.mysql.specs.declared.bind.Column.{Column}
 use Rattle.mysql.specs.declared.fault.Fault.{Fault}
 use Rattle.mysql.specs.declared.fault.Refusal.TheVariants.{Unopened, ArenaLength, NoSuchColumn, NoCurrentRow}
@@ -19,7 +20,7 @@ use Rattle.session.specs.declared.answers.Slip.{Slip}
 use Rattle.session.specs.declared.state.Session.{Session}
 use Rattle.session.specs.declared.state.Value.{Value}
 use Rattle.rows.specs.Bounds.{all_carried, field_at}
-use Rattle.rows.specs.Dues.{Shown, typed, placed, fetched}
+use Rattle.rows.specs.Dues.{Shown, typed, placed, opening, fetched, read}
 
 module _ {H : Type 0} where
   -- While a session is opened, its host is bound to exactly the table's places, at codes that it carries. Where a row is shown, it is
@@ -176,3 +177,24 @@ viewed (Some v) = Some (record { tpe = v.value.tpe; bytes = v.value.raw.now })
 abbrev pub shown_by : Result (Option Value) Fault → Result (Option Shown) Fault
 shown_by (Ok v) = Ok (viewed v)
 shown_by (Err f) = Err f
+
+-- A session with its own host, which means what `means` says of it: what the contracts of its calls say.
+module _ {H : Type 0} (means : H → Meaning) where
+  abbrev pub IsSound : Session H → Type 0
+  IsSound s = Sound (means s.host) s
+
+  abbrev pub HoldsRow : Session H → List ℕ → Type 0
+  HoldsRow s a = Holds (means s.host) s a
+
+  abbrev pub Opens : Result Slip Fault → List (Option MysqlType) → (s s' : Session H) (a a' : List ℕ) → Type 0
+  Opens r wanted s s' a a' = let m = means s.host in AfterOpening r (opening s.opened (length a) m.carries wanted m.columns) m (means s'.host) s s' a a'
+
+  abbrev pub Fetches : Result Fetch Fault → (s s' : Session H) (a a' : List ℕ) → Type 0
+  Fetches r s s' a a' = AfterFetch (means s.host).coming r (means s.host) (means s'.host) s s' a a'
+
+  -- what must be answered to a fetch, and to a reading of the row that is shown
+  abbrev pub fetch_due : Session H → List ℕ → Result Fetch Fault
+  fetch_due s a = fetch_answer s a (means s.host).coming
+
+  abbrev pub row_due : Session H → ℕ → Result (Option Shown) Fault
+  row_due s k = read (pairs_of s.table) (shown_row (means s.host) s) k

@@ -29,6 +29,7 @@ impl<H: Host> Session<H> {
     pub fn close(self, slip: Option<Slip>) -> H
         ensures { H.Host.meaning result ≡ freed (H.Host.meaning self.host) }
     {
+        // Neither a session nor a slip can be dropped: each is spent by a pattern that takes all of it.
         let Session {
             mut host,
             table: _,

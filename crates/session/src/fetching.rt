@@ -3,64 +3,49 @@ ghost use Rattle.std.specs.Prelude.{◌≡◌, true, false};
 ghost use Rattle.host.specs.Meanings.{Row};
 ghost use Rattle.rows.specs.Settling.{RowGot};
 ghost use Rattle.session.specs.Settled.{SettledIn};
-ghost use Rattle.session.specs.Sessions.{Sound, Holds, passes, fetch_answer, NotFetched, AfterFetch};
+ghost use Rattle.session.specs.Sessions.{IsSound, HoldsRow, passes, fetch_due, NotFetched, Fetches};
 
 use crate::state::Session;
 use host::{Fetched, Host, Report};
 use mysql::Fault;
 use rows::{Fetch, populate_dynamic_buffers};
 
-const NO_REPORT: Report = Report {
-    length: 0,
-    is_null: false,
-    is_truncated: false,
-};
-
 impl<H: Host> Session<H> {
     // Takes the next event of the host off: a row is shown, or refused; a failure is refused; at the end there is none.
     pub fn fetch(&mut self, arena: &mut [u8]) -> Result<Fetch, Fault>
-        ensures answer { Sound (H.Host.meaning self.old.host) self.old → result ≡ fetch_answer self.old arena.old (H.Host.meaning self.old.host).coming }
+        ensures answer { IsSound H.Host.meaning self.old → result ≡ fetch_due H.Host.meaning self.old arena.old }
         ensures unchecked { passes self.old arena.old ≡ false → NotFetched self.old self.new arena.old arena.new }
-        ensures after { Sound (H.Host.meaning self.old.host) self.old → passes self.old arena.old ≡ true → AfterFetch (H.Host.meaning self.old.host).coming result (H.Host.meaning self.old.host) (H.Host.meaning self.new.host) self.old self.new arena.old arena.new }
-        ensures sound { Sound (H.Host.meaning self.old.host) self.old → Sound (H.Host.meaning self.new.host) self.new }
-        ensures holds { Sound (H.Host.meaning self.old.host) self.old → Holds (H.Host.meaning self.old.host) self.old arena.old → Holds (H.Host.meaning self.new.host) self.new arena.new }
+        ensures after { IsSound H.Host.meaning self.old → passes self.old arena.old ≡ true → Fetches H.Host.meaning result self.old self.new arena.old arena.new }
+        ensures sound { IsSound H.Host.meaning self.old → IsSound H.Host.meaning self.new }
+        ensures holds { IsSound H.Host.meaning self.old → HoldsRow H.Host.meaning self.old arena.old → HoldsRow H.Host.meaning self.new arena.new }
     {
+        self.check(arena.len())?;
         self.populate_row_buffers(arena)
     }
 
-    // The two checks, and then the host's answer.
+    // The host's answer, where the two checks pass.
     fn populate_row_buffers(&mut self, arena: &mut [u8]) -> Result<Fetch, Fault>
-        ensures answer { Sound (H.Host.meaning self.old.host) self.old → result ≡ fetch_answer self.old arena.old (H.Host.meaning self.old.host).coming }
-        ensures unchecked { passes self.old arena.old ≡ false → NotFetched self.old self.new arena.old arena.new }
-        ensures after { Sound (H.Host.meaning self.old.host) self.old → passes self.old arena.old ≡ true → AfterFetch (H.Host.meaning self.old.host).coming result (H.Host.meaning self.old.host) (H.Host.meaning self.new.host) self.old self.new arena.old arena.new }
+        requires { passes self.old arena.old ≡ true }
+        ensures answer { IsSound H.Host.meaning self.old → result ≡ fetch_due H.Host.meaning self.old arena.old }
+        ensures after { IsSound H.Host.meaning self.old → Fetches H.Host.meaning result self.old self.new arena.old arena.new }
     {
-        match self.check(arena.len()) {
-            Ok(()) => {}
-            Err(fault) => return Err(fault),
-        }
         self.shown = false;
-        let mut reports = [NO_REPORT; 64];
-        let count = self.table.count();
-        let reports = &mut reports[0..count];
+        let mut reports = [Report::default(); 64];
+        let reports = &mut reports[..self.table.count()];
         match self.host.fetch(arena, reports) {
             Fetched::NoData => Ok(Fetch::End),
             Fetched::Failed => Err(Fault::host(self.host.error_number())),
-            Fetched::Row => self.settle(arena, reports),
-            Fetched::Truncated => self.settle(arena, reports),
+            Fetched::Row | Fetched::Truncated => self.settle(arena, reports),
         }
     }
 
     // Shows the row that the host wrote, unless it is refused.
     fn settle(&mut self, arena: &mut [u8], reports: &[Report]) -> Result<Fetch, Fault>
+        requires { self.old.shown ≡ false }
         ensures { (row : Row) → RowGot (H.Host.meaning self.old.host) row self.old.table reports.now arena.old → SettledIn (H.Host.meaning self.old.host) row self.old arena.old result (H.Host.meaning self.new.host) self.new arena.new }
     {
-        self.shown = false;
-        match populate_dynamic_buffers(&mut self.host, &mut self.table, arena, reports) {
-            Ok(()) => {
-                self.shown = true;
-                Ok(Fetch::Row)
-            }
-            Err(fault) => Err(fault),
-        }
+        populate_dynamic_buffers(&mut self.host, &mut self.table, arena, reports)?;
+        self.shown = true;
+        Ok(Fetch::Row)
     }
 }

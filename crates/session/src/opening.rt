@@ -1,29 +1,21 @@
 // The opening of a session.
-ghost use Rattle.std.specs.Prelude.{◌≡◌, ℕ, ◌<◌, ◌≤◌, length, slice_index, slice_index_or};
+ghost use Rattle.std.specs.Prelude.{◌≡◌, ◌≤◌, false, length, slice_index_or, Ok, Err, MatchResult};
 ghost use Rattle.mysql.specs.Taken.{taken_pair};
 ghost use Rattle.host.specs.Meanings.{no_column};
-ghost use Rattle.layout.specs.Moves.{Beyond};
-ghost use Rattle.rows.specs.Bounds.{wanted_of, BoundTo};
-ghost use Rattle.rows.specs.Dues.{opening as opening_due};
-ghost use Rattle.session.specs.Sessions.{Sound, Holds, PlacedAs, AfterOpening};
+ghost use Rattle.rows.specs.Bounds.{wanted_of, bound};
+ghost use Rattle.session.specs.Sessions.{IsSound, HoldsRow, PlacedAs, Opens};
 
 use crate::answers::Slip;
 use crate::state::Session;
-use host::Host;
+use arrayvec::ArrayVec;
+use host::{Host, bind_all};
 use layout::ColumnTable;
 use mysql::{Column, Fault, MysqlType, Refusal, taken};
 
-// The most bytes that an arena has.
+// The most bytes that an arena has; `layout` has this number for its own tables.
 const MOST_BYTES: usize = 65536;
 
-// The type that is wanted of a column: none past the end of the list.
-fn wanted_type(wanted: &[Option<MysqlType>], i: usize) -> Option<MysqlType>
-    ensures { result ≡ wanted_of wanted.now i }
-{
-    if i < wanted.len() { wanted[i] } else { None }
-}
-
-// The code and flags that a column of a host's result is bound with.
+// The code and flags that a column of a host's result is bound with. No type is wanted of the columns past the end of the list.
 fn bound_column<H: Host>(
     host: &H,
     wanted: &[Option<MysqlType>],
@@ -31,32 +23,22 @@ fn bound_column<H: Host>(
 ) -> Result<(u8, u32), Fault>
     ensures { result ≡ taken_pair (wanted_of wanted.now i) (slice_index_or (H.Host.meaning host.now).columns i no_column).code (slice_index_or (H.Host.meaning host.now).columns i no_column).flags }
 {
-    taken(wanted_type(wanted, i), host.column(i))
+    taken(wanted.get(i).copied().flatten(), host.column(i))
 }
 
-// The codes and flags that all columns are bound with; past the last one there is nothing that counts.
-fn bound_columns<H: Host>(host: &H, wanted: &[Option<MysqlType>]) -> Result<[Column; 64], Fault>
-    ensures { BoundTo wanted.now (H.Host.meaning host.now).columns result }
+// The codes and flags that all columns are bound with.
+fn bound_columns<H: Host>(
+    host: &H,
+    wanted: &[Option<MysqlType>],
+) -> Result<ArrayVec<Column, 64>, Fault>
+    ensures { MatchResult result (λ pairs. bound wanted.now (H.Host.meaning host.now).columns ≡ Ok pairs.items) (λ f. bound wanted.now (H.Host.meaning host.now).columns ≡ Err f) }
 {
-    let mut pairs = [Column { code: 0, flags: 0 }; 64];
+    let mut pairs = ArrayVec::new();
     for i in 0..host.column_count() {
-        match bound_column(host, wanted, i) {
-            Ok((code, flags)) => pairs[i] = Column { code, flags },
-            Err(fault) => return Err(fault.at(i as u8)),
-        }
+        let (code, flags) = bound_column(host, wanted, i).map_err(|fault| fault.at(i as u8))?;
+        pairs.push(Column { code, flags });
     }
     Ok(pairs)
-}
-
-// Zeroes the bytes before `end`.
-fn zero(arena: &mut [u8], end: usize)
-    requires { end ≤ length arena.old }
-    ensures zeroed { (p : ℕ) → p < end → slice_index arena.new p ≡ 0 }
-    ensures others { Beyond end arena.old arena.new }
-{
-    for p in 0..end {
-        arena[p] = 0;
-    }
 }
 
 // Lays the bound columns out, tells the host of their places, and zeroes these.
@@ -67,29 +49,18 @@ fn place_columns<H: Host>(
 ) -> Result<ColumnTable, Fault>
     ensures { length pairs.now ≡ length (H.Host.meaning host.old).columns → length arena.old ≤ 65536 → PlacedAs result (H.Host.meaning host.old) (H.Host.meaning host.new) pairs.now arena.old arena.new }
 {
-    let Some(table) = ColumnTable::opening(pairs, arena.len()) else {
-        return Err(Fault::new(Refusal::LayoutTooLong));
-    };
-    if !host.bind(table.bind_records().as_slice()) {
-        return Err(Fault::host(host.error_number()));
-    }
-    zero(arena, table.end());
+    let table = ColumnTable::opening(pairs, arena.len()).ok_or(Fault::new(Refusal::LayoutTooLong))?;
+    bind_all(host, table.bind_records().as_slice())?;
+    arena[..table.end()].fill(0);
     Ok(table)
 }
 
 impl<H: Host> Session<H> {
     // Binds the columns of the host's result to places in the arena, and hands out a slip.
     pub fn open(&mut self, arena: &mut [u8], wanted: &[Option<MysqlType>]) -> Result<Slip, Fault>
-        ensures after { AfterOpening result (opening_due self.old.opened (length arena.old) (H.Host.meaning self.old.host).carries wanted.now (H.Host.meaning self.old.host).columns) (H.Host.meaning self.old.host) (H.Host.meaning self.new.host) self.old self.new arena.old arena.new }
-        ensures sound { Sound (H.Host.meaning self.old.host) self.old → Sound (H.Host.meaning self.new.host) self.new }
-        ensures holds { Holds (H.Host.meaning self.old.host) self.old arena.old → Holds (H.Host.meaning self.new.host) self.new arena.new }
-    {
-        self.bind_to(arena, wanted)
-    }
-
-    // The checks of an opening, in their order, and the opening.
-    fn bind_to(&mut self, arena: &mut [u8], wanted: &[Option<MysqlType>]) -> Result<Slip, Fault>
-        ensures { AfterOpening result (opening_due self.old.opened (length arena.old) (H.Host.meaning self.old.host).carries wanted.now (H.Host.meaning self.old.host).columns) (H.Host.meaning self.old.host) (H.Host.meaning self.new.host) self.old self.new arena.old arena.new }
+        ensures after { Opens H.Host.meaning result wanted.now self.old self.new arena.old arena.new }
+        ensures sound { IsSound H.Host.meaning self.old → IsSound H.Host.meaning self.new }
+        ensures holds { HoldsRow H.Host.meaning self.old arena.old → HoldsRow H.Host.meaning self.new arena.new }
     {
         if self.opened {
             return Err(Fault::new(Refusal::AlreadyOpened));
@@ -97,19 +68,20 @@ impl<H: Host> Session<H> {
         if arena.len() > MOST_BYTES {
             return Err(Fault::new(Refusal::ArenaLength));
         }
-        let pairs = match bound_columns(&self.host, wanted) {
-            Ok(pairs) => pairs,
-            Err(fault) => return Err(fault),
-        };
-        let count = self.host.column_count();
-        match place_columns(&mut self.host, &pairs[0..count], arena) {
-            Ok(table) => {
-                self.shown = false;
-                self.table = table;
-                self.opened = true;
-                Ok(Slip { mark: () })
-            }
-            Err(fault) => Err(fault),
-        }
+        self.bind_to(arena, wanted)
+    }
+
+    // Binds the columns of a session that is not opened yet.
+    fn bind_to(&mut self, arena: &mut [u8], wanted: &[Option<MysqlType>]) -> Result<Slip, Fault>
+        requires unopened { self.old.opened ≡ false }
+        requires short { length arena.old ≤ 65536 }
+        ensures { Opens H.Host.meaning result wanted.now self.old self.new arena.old arena.new }
+    {
+        let pairs = bound_columns(&self.host, wanted)?;
+        let table = place_columns(&mut self.host, &pairs, arena)?;
+        self.shown = false;
+        self.table = table;
+        self.opened = true;
+        Ok(Slip { mark: () })
     }
 }

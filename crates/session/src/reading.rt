@@ -1,8 +1,7 @@
 // Readings of the row that is shown.
 ghost use Rattle.std.specs.Prelude.{◌≡◌, true, Ok};
-ghost use Rattle.rows.specs.Dues.{read as row_reading, read_as};
-ghost use Rattle.rows.specs.Standing.{pairs_of};
-ghost use Rattle.session.specs.Sessions.{Sound, Holds, passes, shown_row, reading, shown_by, past_checks};
+ghost use Rattle.rows.specs.Dues.{read_as};
+ghost use Rattle.session.specs.Sessions.{IsSound, HoldsRow, passes, row_due, reading, shown_by, past_checks};
 
 use crate::state::{Session, Value};
 use host::Host;
@@ -30,20 +29,21 @@ impl<H: Host> Session<H> {
         column: usize,
     ) -> Result<Option<Value<'s, 'a>>, Fault>
         ensures exact { shown_by result ≡ reading self.now arena.now column }
-        ensures row { Sound (H.Host.meaning self.now.host) self.now → Holds (H.Host.meaning self.now.host) self.now arena.now → passes self.now arena.now ≡ true → shown_by result ≡ row_reading (pairs_of self.now.table) (shown_row (H.Host.meaning self.now.host) self.now) column }
+        ensures row { IsSound H.Host.meaning self.now → HoldsRow H.Host.meaning self.now arena.now → passes self.now arena.now ≡ true → shown_by result ≡ row_due H.Host.meaning self.now column }
     {
+        self.check(arena.len())?;
         self.look(arena, column)
     }
 
-    // What a column's record and place say.
+    // What a column's record and place say, where the two checks pass.
     fn look<'s, 'a>(
         &'s self,
         arena: &'a [u8],
         column: usize,
     ) -> Result<Option<Value<'s, 'a>>, Fault>
+        requires { passes self.now arena.now ≡ true }
         ensures { shown_by result ≡ reading self.now arena.now column }
     {
-        self.check(arena.len())?;
         let Some(record) = self.table.column(column) else {
             return Err(Fault::new(Refusal::NoSuchColumn));
         };
@@ -53,10 +53,8 @@ impl<H: Host> Session<H> {
         if record.is_null {
             return Ok(None);
         }
-        let tpe = match MysqlType::try_from((record.code, record.flags)) {
-            Ok(tpe) => tpe,
-            Err(fault) => return Err(fault.at(column as u8)),
-        };
+        let pair = (record.code, record.flags);
+        let tpe = MysqlType::try_from(pair).map_err(|fault| fault.at(column as u8))?;
         let start = record.start;
         let end = start + record.byte_count() as usize;
         let value = MysqlValue::new(&arena[start..end], tpe);
@@ -69,23 +67,10 @@ impl<H: Host> Session<H> {
     // What the shown row has in a column, as a value of a type: a null is refused, and a fault of the reading names the column.
     pub fn read_as<T: FromSql>(&self, arena: &[u8], column: usize) -> Result<T, Fault>
         ensures exact { result ≡ read_as T.FromSql.reads column (reading self.now arena.now column) }
-        ensures row { Sound (H.Host.meaning self.now.host) self.now → Holds (H.Host.meaning self.now.host) self.now arena.now → passes self.now arena.now ≡ true → result ≡ read_as T.FromSql.reads column (row_reading (pairs_of self.now.table) (shown_row (H.Host.meaning self.now.host) self.now) column) }
+        ensures row { IsSound H.Host.meaning self.now → HoldsRow H.Host.meaning self.now arena.now → passes self.now arena.now ≡ true → result ≡ read_as T.FromSql.reads column (row_due H.Host.meaning self.now column) }
     {
-        self.look_as(arena, column)
-    }
-
-    // What a column's record and place say, as a value of a type.
-    fn look_as<T: FromSql>(&self, arena: &[u8], column: usize) -> Result<T, Fault>
-        ensures { result ≡ read_as T.FromSql.reads column (reading self.now arena.now column) }
-    {
-        let value = match self.look(arena, column)? {
-            Some(shown) => Some(shown.value),
-            None => None,
-        };
-        match from_nullable_sql::<T>(value) {
-            Ok(x) => Ok(x),
-            Err(fault) => Err(fault.at(column as u8)),
-        }
+        let value = self.read(arena, column)?.map(|shown| shown.value);
+        from_nullable_sql(value).map_err(|fault| fault.at(column as u8))
     }
 }
 
