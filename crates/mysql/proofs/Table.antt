@@ -1,11 +1,10 @@
 -- The table of kept pairs is the one that the rule makes: antt computes both, over all 620 entries, and compares them.
 -- Assumes nothing.
-use Rattle.std.proofs.Common.{◌≡◌, ℕ, ◌-◌, ◌<◌, ◌≤◌, Bool, false, List, [], map, get_or, refl, ap, ◌∙◌, arith}
+use Rattle.std.proofs.Common.{◌≡◌, ℕ, ◌-◌, ◌<◌, ◌≤◌, Bool, false, List, [], map, get_or, ap, ◌∙◌, arith, rules}
 use Rattle.std.proofs.lemmas.List.{get_or-map}
 use Rattle.std.proofs.lemmas.List.FromFn.{get_or-map-range_with_len}
 use Rattle.std.proofs.lemmas.Bool.Decides.{nat_tests}
 use Rattle.mysql.specs.declared.backend.MysqlType.{MysqlType}
-use Rattle.mysql.specs.declared.backend.MysqlType.TheVariants.{Tiny, UnsignedTiny, Short, UnsignedShort, Long, UnsignedLong, LongLong, UnsignedLongLong, Float, Double, Numeric, Time, Date, DateTime, Timestamp, String, Blob, Bit, Set, Enum}
 use Rattle.mysql.specs.Kept.{keeps, row_of, types, code_at, named_codes}
 
 abbrev table : List (List Bool)
@@ -13,26 +12,7 @@ table = map (λ t. map (keeps t) named_codes) types
 
 -- the row of a type
 row_is : (t : MysqlType) → get_or table (row_of t) [] ≡ map (keeps t) named_codes
-row_is Tiny = refl
-row_is UnsignedTiny = refl
-row_is Short = refl
-row_is UnsignedShort = refl
-row_is Long = refl
-row_is UnsignedLong = refl
-row_is LongLong = refl
-row_is UnsignedLongLong = refl
-row_is Float = refl
-row_is Double = refl
-row_is Numeric = refl
-row_is Time = refl
-row_is Date = refl
-row_is DateTime = refl
-row_is Timestamp = refl
-row_is String = refl
-row_is Blob = refl
-row_is Bit = refl
-row_is Set = refl
-row_is Enum = refl
+row_is t = search rules
 
 -- the entry of a type and a code
 entry : (t : MysqlType) (k : ℕ) → k < 31 → get_or (get_or table (row_of t) []) k false ≡ keeps t (code_at k)

@@ -1,6 +1,6 @@
 // The types that a value of a MySQL result can have.
 
-// The numbers are the rows of the table of kept pairs (`bind::KEPT`).
+// The numbers are the rows of the table of kept pairs (`kept::KEPT`).
 #[derive(Clone, Copy, PartialEq, Eq, Debug)]
 pub enum MysqlType {
     Tiny = 0,

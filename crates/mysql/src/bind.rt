@@ -61,8 +61,7 @@ impl TryFrom<(u8, u32)> for MysqlType {
 
     ghost try_from_gives = { λ pair r. r ≡ type_of pair.0 pair.1 };
 
-    fn try_from(pair: (u8, u32)) -> Result<MysqlType, Fault> {
-        let (code, flags) = pair;
+    fn try_from((code, flags): (u8, u32)) -> Result<MysqlType, Fault> {
         let unsigned = flags & UNSIGNED_FLAG != 0;
         let tpe = match code {
             MYSQL_TYPE_TINY if unsigned => MysqlType::UnsignedTiny,
@@ -96,7 +95,7 @@ impl TryFrom<(u8, u32)> for MysqlType {
 pub fn round_trip(tpe: MysqlType) -> Result<MysqlType, Fault>
     ensures { result ≡ Ok (read_back tpe) }
 {
-    MysqlType::try_from(<(u8, u32) as From<MysqlType>>::from(tpe))
+    MysqlType::try_from(<(u8, u32)>::from(tpe))
 }
 
 // How many bytes a value of a code takes, where all of its values take the same.
@@ -129,7 +128,7 @@ pub fn taken(wanted: Option<MysqlType>, column: Column) -> Result<(u8, u32), Fau
     ensures { result ≡ taken_pair wanted column.code column.flags }
 {
     match wanted {
-        Some(tpe) if !is_kept(tpe, column.code) => Ok(<(u8, u32) as From<MysqlType>>::from(tpe)),
+        Some(tpe) if !is_kept(tpe, column.code) => Ok(tpe.into()),
         _ => Ok((column.code, known_flags(column.flags)?)),
     }
 }

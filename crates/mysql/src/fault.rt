@@ -75,9 +75,9 @@ pub const NO_COLUMN: u8 = 255;
 #[derive(Clone, Copy, PartialEq, Eq, Debug)]
 pub struct Fault {
     refusal: Refusal,
-    // the column, where the refusal can name one
+    // the column, where the refusal can name one, or 255 (no Option: with one, `at(255)` would differ from a fault that answers the same)
     column: u8,
-    // the host's error number, where the host failed
+    // the host's error number, where the host failed (no Option: a failure of which none is known answers 0 too, and would differ from it)
     host: u16,
 }
 
@@ -109,11 +109,7 @@ impl Fault {
         ensures { result ≡ at_column self column }
     {
         if names_column(self.refusal) {
-            Fault {
-                refusal: self.refusal,
-                column,
-                host: self.host,
-            }
+            Fault { column, ..self }
         } else {
             self
         }
@@ -122,8 +118,7 @@ impl Fault {
     pub fn refusal(self) -> Refusal
         ensures { result ≡ self.refusal }
     {
-        let Fault { refusal, .. } = self;
-        refusal
+        self.refusal
     }
 
     pub fn number(self) -> u8
@@ -135,10 +130,27 @@ impl Fault {
     pub fn layer(self) -> Layer
         ensures { result ≡ layer_of self.refusal }
     {
-        match self.number() {
-            9 | 23 => Layer::Host,
-            13..=21 => Layer::Reading,
-            _ => Layer::Session,
+        match self.refusal {
+            Refusal::HostFailed | Refusal::BrokenTape => Layer::Host,
+            Refusal::Unopened
+            | Refusal::AlreadyOpened
+            | Refusal::ArenaLength
+            | Refusal::NoSuchColumn
+            | Refusal::NoCurrentRow
+            | Refusal::UnknownFlags
+            | Refusal::LayoutTooLong
+            | Refusal::NumericOverflow
+            | Refusal::NoRoom
+            | Refusal::NoType => Layer::Session,
+            Refusal::UnexpectedNull
+            | Refusal::WrongType
+            | Refusal::TooShort
+            | Refusal::InvalidSign
+            | Refusal::NegativeTime
+            | Refusal::OutOfRange
+            | Refusal::NotUtf8
+            | Refusal::ManyDots
+            | Refusal::InvalidInteger => Layer::Reading,
         }
     }
 
@@ -160,7 +172,7 @@ impl Fault {
         match self.refusal {
             Refusal::HostFailed => Some(HostError {
                 number: self.host,
-                kind: last_error_type(self.host),
+                kind: DatabaseErrorKind::from(self.host),
             }),
             _ => None,
         }
@@ -171,20 +183,26 @@ impl Fault {
 fn names_column(refusal: Refusal) -> bool
     ensures { result ≡ names_column refusal }
 {
-    matches!(refusal as u8, 7 | 10 | 12..=21)
+    matches!(
+        refusal,
+        Refusal::UnknownFlags
+            | Refusal::NumericOverflow
+            | Refusal::NoType
+            | Refusal::UnexpectedNull
+            | Refusal::WrongType
+            | Refusal::TooShort
+            | Refusal::InvalidSign
+            | Refusal::NegativeTime
+            | Refusal::OutOfRange
+            | Refusal::NotUtf8
+            | Refusal::ManyDots
+            | Refusal::InvalidInteger
+    )
 }
 
 // The kind of failure that a MySQL error number stands for.
 pub fn last_error_type(number: u16) -> DatabaseErrorKind
     ensures { result ≡ kind_of number }
 {
-    match number {
-        1062 | 1586 | 1859 => DatabaseErrorKind::UniqueViolation,
-        1216 | 1217 | 1451 | 1452 | 1830 | 1834 => DatabaseErrorKind::ForeignKeyViolation,
-        1792 => DatabaseErrorKind::ReadOnlyTransaction,
-        1048 | 1364 => DatabaseErrorKind::NotNullViolation,
-        3819 => DatabaseErrorKind::CheckViolation,
-        1213 => DatabaseErrorKind::SerializationFailure,
-        _ => DatabaseErrorKind::Unknown,
-    }
+    DatabaseErrorKind::from(number)
 }

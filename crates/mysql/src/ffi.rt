@@ -1,4 +1,5 @@
 // The codes of field types and the flags of columns that this crate looks at, under the names of MySQL's C headers.
+// They are the C interface's numbers, and no enum: a library may report a code that has no name here.
 
 pub const MYSQL_TYPE_DECIMAL: u8 = 0;
 

@@ -8,71 +8,56 @@ const Y: bool = true;
 
 const N: bool = false;
 
-// A row for each type, by its number, and a column for each named code: 0 to 19, and then 245 to 255.
-const KEPT: [[bool; 31]; 20] = [
-    [
-        Y, Y, Y, Y, Y, Y, N, N, Y, Y, N, N, N, N, N, N, N, N, N, N, N, Y, N, N, N, N, N, N, N, N, N,
-    ], // Tiny
-    [
-        Y, Y, Y, Y, Y, Y, N, N, Y, Y, N, N, N, N, N, N, N, N, N, N, N, Y, N, N, N, N, N, N, N, N, N,
-    ], // UnsignedTiny
-    [
-        Y, Y, Y, Y, Y, Y, N, N, Y, Y, N, N, N, N, N, N, N, N, N, N, N, Y, N, N, N, N, N, N, N, N, N,
-    ], // Short
-    [
-        Y, Y, Y, Y, Y, Y, N, N, Y, Y, N, N, N, N, N, N, N, N, N, N, N, Y, N, N, N, N, N, N, N, N, N,
-    ], // UnsignedShort
-    [
-        Y, Y, Y, Y, Y, Y, N, N, Y, Y, N, N, N, N, N, N, N, N, N, N, N, Y, N, N, N, N, N, N, N, N, N,
-    ], // Long
-    [
-        Y, Y, Y, Y, Y, Y, N, N, Y, Y, N, N, N, N, N, N, N, N, N, N, N, Y, N, N, N, N, N, N, N, N, N,
-    ], // UnsignedLong
-    [
-        Y, Y, Y, Y, Y, Y, N, N, Y, Y, N, N, N, N, N, N, N, N, N, N, N, Y, N, N, N, N, N, N, N, N, N,
-    ], // LongLong
-    [
-        Y, Y, Y, Y, Y, Y, N, N, Y, Y, N, N, N, N, N, N, N, N, N, N, N, Y, N, N, N, N, N, N, N, N, N,
-    ], // UnsignedLongLong
-    [
-        Y, Y, Y, Y, Y, Y, N, N, Y, Y, N, N, N, N, N, N, N, N, N, N, N, Y, N, N, N, N, N, N, N, N, N,
-    ], // Float
-    [
-        N, N, N, N, N, N, N, N, N, N, N, N, N, N, N, N, N, N, N, N, N, N, N, N, N, N, N, N, N, N, N,
-    ], // Double
-    [
-        Y, Y, Y, Y, Y, Y, N, N, Y, Y, N, N, N, N, N, N, N, N, N, N, N, Y, N, N, N, N, N, N, N, N, N,
-    ], // Numeric
-    [
-        N, N, N, N, N, N, N, N, N, N, N, N, N, N, N, N, N, N, N, N, N, N, N, N, N, N, N, N, N, N, N,
-    ], // Time
-    [
-        N, N, N, N, N, N, N, N, N, N, N, N, N, N, N, N, N, N, N, N, N, N, N, N, N, N, N, N, N, N, N,
-    ], // Date
-    [
-        N, N, N, N, N, N, N, N, N, N, N, N, N, N, N, N, N, N, N, N, N, N, N, N, N, N, N, N, N, N, N,
-    ], // DateTime
-    [
-        N, N, N, N, N, N, N, N, N, N, N, N, N, N, N, N, N, N, N, N, N, N, N, N, N, N, N, N, N, N, N,
-    ], // Timestamp
-    [
-        N, N, N, N, N, N, N, N, N, N, N, N, N, N, N, N, N, N, N, N, Y, N, Y, Y, Y, Y, Y, Y, Y, Y, N,
-    ], // String
-    [
-        N, N, N, N, N, N, N, N, N, N, N, N, N, N, N, N, N, N, N, N, N, N, N, N, Y, Y, Y, Y, N, N, N,
-    ], // Blob
-    [
-        N, N, N, N, N, N, N, N, N, N, N, N, N, N, N, N, N, N, N, N, N, N, N, N, N, N, N, N, N, N, N,
-    ], // Bit
-    [
-        N, N, N, N, N, N, N, N, N, N, N, N, N, N, N, N, N, N, N, N, N, N, Y, Y, Y, Y, Y, Y, Y, Y, N,
-    ], // Set
-    [
-        N, N, N, N, N, N, N, N, N, N, N, N, N, N, N, N, N, N, N, N, N, N, Y, Y, Y, Y, Y, Y, Y, Y, N,
-    ], // Enum
+// A row has an entry for each named code: 0 to 19, and then 245 to 255.
+
+// Of a number wanted, the codes of numbers are kept;
+const NUMBER: [bool; 31] = [
+    Y, Y, Y, Y, Y, Y, N, N, Y, Y, N, N, N, N, N, N, N, N, N, N, N, Y, N, N, N, N, N, N, N, N, N,
 ];
 
-// The number of a type's row.
+// of text, JSON and the codes from ENUM to STRING;
+const TEXT: [bool; 31] = [
+    N, N, N, N, N, N, N, N, N, N, N, N, N, N, N, N, N, N, N, N, Y, N, Y, Y, Y, Y, Y, Y, Y, Y, N,
+];
+
+// of binary data, the four blobs;
+const BINARY: [bool; 31] = [
+    N, N, N, N, N, N, N, N, N, N, N, N, N, N, N, N, N, N, N, N, N, N, N, N, Y, Y, Y, Y, N, N, N,
+];
+
+// of a member of an enumeration or of a set, the codes from ENUM to STRING;
+const MEMBER: [bool; 31] = [
+    N, N, N, N, N, N, N, N, N, N, N, N, N, N, N, N, N, N, N, N, N, N, Y, Y, Y, Y, Y, Y, Y, Y, N,
+];
+
+// and of these, none.
+const NOTHING: [bool; 31] = [N; 31];
+
+// A row for each type, by its number.
+const KEPT: [[bool; 31]; 20] = [
+    NUMBER, // Tiny
+    NUMBER, // UnsignedTiny
+    NUMBER, // Short
+    NUMBER, // UnsignedShort
+    NUMBER, // Long
+    NUMBER, // UnsignedLong
+    NUMBER, // LongLong
+    NUMBER, // UnsignedLongLong
+    NUMBER, // Float
+    NOTHING, // Double
+    NUMBER, // Numeric
+    NOTHING, // Time
+    NOTHING, // Date
+    NOTHING, // DateTime
+    NOTHING, // Timestamp
+    TEXT, // String
+    BINARY, // Blob
+    NOTHING, // Bit
+    MEMBER, // Set
+    MEMBER, // Enum
+];
+
+// The number of a type's row. (A function of its own: with the cast in the index, the check does not tell which row it is.)
 fn row(tpe: MysqlType) -> usize
     ensures { result ≡ row_of tpe }
 {
@@ -83,12 +68,10 @@ fn row(tpe: MysqlType) -> usize
 pub fn is_kept(tpe: MysqlType, code: u8) -> bool
     ensures { result ≡ keeps tpe code }
 {
-    if code <= 19 {
-        KEPT[row(tpe)][code as usize]
-    } else if code >= 245 {
-        KEPT[row(tpe)][code as usize - 225]
-    } else {
-        false
+    match code {
+        0..=19 => KEPT[row(tpe)][code as usize],
+        245..=255 => KEPT[row(tpe)][code as usize - 225],
+        _ => false,
     }
 }
 
