@@ -1,11 +1,11 @@
 -- The capacity that a column gets when places grow.
-use Rattle.std.proofs.Common.{◌≡◌, ℕ, ◌<◌, ◌≤◌, Bool, true, false, Some, None, Option, sym, refl, ap, ◌∙◌, subst, arith}
+use Rattle.std.proofs.Common.{◌≡◌, ℕ, ◌<◌, ◌≤◌, Bool, true, false, List, get_or, Some, None, Option, sym, refl, ap, ◌∙◌, subst, arith}
 use Rattle.mysql.specs.Types.{size_of}
 use Rattle.layout.specs.declared.record.ColumnRecord.{ColumnRecord}
 use Rattle.layout.specs.declared.table.ColumnTable.{ColumnTable}
-use Rattle.layout.specs.Columns.{bytes_by, bytes_of, kept, kept_if, counted, widened, wanted, Over, Fits}
-use Rattle.layout.specs.Tables.{col, need, sum_of, AllFit, Grown, end}
-use Rattle.layout.proofs.Adding.{sum_le, sum_span}
+use Rattle.layout.specs.Columns.{no_record, moved, bytes_by, bytes_of, kept, kept_if, counted, widened, wanted, Over, Fits}
+use Rattle.layout.specs.Tables.{count_of, col, need, sum_of, AllFit, Grown, end}
+use Rattle.layout.proofs.Adding.{sum_le, sum_total}
 
 -- where a fixed place has its size
 
@@ -46,7 +46,7 @@ counted_widened None false capacity told e h = omega arith
 
 -- a wide layout takes no less than a tight one
 pub need_wide : (t : ColumnTable) → need t ≤ sum_of false t
-need_wide t = sum_le t.columns t.count
+need_wide t = sum_le t.columns.items
     (λ k l. let c = col t k in counted_widened (size_of c.code) c.is_null c.capacity c.length (t.sized k l) (t.roomy k l))
 
 counted_fits : (size : Option ℕ) (null : Bool) (capacity told : ℕ) → bytes_by size capacity ≡ capacity → 1 ≤ capacity → (null ≡ false → bytes_by size told ≤ capacity) → counted size null told ≤ capacity
@@ -56,7 +56,7 @@ counted_fits None false capacity told e h f = omega (arith, f refl)
 
 -- where each column fits its place, the need is at most what the places take, and so the arena's length
 pub need_end : (t : ColumnTable) → AllFit t → need t ≤ end t
-need_end t f = sum_span true t.columns t.count
+need_end t f = sum_total true t.columns.items
     (λ k l. let c = col t k in counted_fits (size_of c.code) c.is_null c.capacity c.length (t.sized k l) (t.roomy k l) (f k l))
 
 pub fits_need : (t : ColumnTable) → AllFit t → need t ≤ t.room
@@ -72,7 +72,7 @@ pub fits_wide : (c : ColumnRecord) → Fits c → wanted false c ≡ c.capacity
 fits_wide c f = widened_fits (size_of c.code) c.is_null c.capacity c.length f
 
 pub fits_sum : (t : ColumnTable) → AllFit t → sum_of false t ≤ t.room
-fits_sum t f = let w = t.within in omega (arith, sum_span false t.columns t.count (λ k l. omega (arith, fits_wide (col t k) (f k l))))
+fits_sum t f = let w = t.within in omega (arith, sum_total false t.columns.items (λ k l. omega (arith, fits_wide (col t k) (f k l))))
 
 -- what a column keeps has room in what it gets
 
@@ -124,7 +124,7 @@ bytes_wanted : (tight : Bool) (c : ColumnRecord) → bytes_by (size_of c.code) c
 bytes_wanted true c e n = bytes_counted (size_of c.code) c.is_null c.length n
 bytes_wanted false c e n = bytes_widened (size_of c.code) c.is_null c.capacity c.length e n
 
-module _ (old new : ColumnTable) (g : Grown old new) (k : ℕ) (l : k < old.count) where
+module _ (old new : ColumnTable) (g : Grown old new) (k : ℕ) (l : k < count_of old) where
   pub new_capacity : (col new k).capacity ≡ wanted g.tight (col old k)
   new_capacity = ap (λ (z : ColumnRecord). z.capacity) (g.laid.each k l)
 
@@ -140,3 +140,22 @@ module _ (old new : ColumnTable) (g : Grown old new) (k : ℕ) (l : k < old.coun
 
   pub new_fits : Fits (col new k)
   new_fits = subst Fits (sym (g.laid.each k l)) (λ n. bytes_wanted g.tight (col old k) (old.sized k l) n)
+
+-- a column of a list that is the table's, and the capacity that it gets
+module _ (t : ColumnTable) (cs : List ColumnRecord) (e : cs ≡ t.columns.items) (i : ℕ) (l : i < count_of t) (tight : Bool) (n : ℕ) (w : n ≡ wanted tight (get_or cs i no_record)) where
+  pub is_col : get_or cs i no_record ≡ col t i
+  is_col = ap (λ (z : List ColumnRecord). get_or z i no_record) e
+
+  pub gets : n ≡ wanted tight (col t i)
+  gets = w ∙ ap (wanted tight) is_col
+
+  pub gets_some : 1 ≤ n
+  gets_some = omega (arith, gets, wanted_some tight (col t i) (t.sized i l) (t.roomy i l))
+
+  pub gets_sized : bytes_by (size_of (get_or cs i no_record).code) n ≡ n
+  gets_sized =
+      subst (λ (z : ColumnRecord). bytes_by (size_of z.code) n ≡ n) (sym is_col)
+      (subst (λ (z : ℕ). bytes_by (size_of (col t i).code) z ≡ z) (sym gets) (wanted_sized tight (col t i) (t.sized i l)))
+
+  pub gets_moved : (at : ℕ) → moved (get_or cs i no_record) at n ≡ moved (col t i) at (wanted tight (col t i))
+  gets_moved at = ap (λ (z : ColumnRecord). moved z at n) is_col ∙ ap (moved (col t i) at) gets

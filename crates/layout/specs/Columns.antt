@@ -1,6 +1,6 @@
 -- What a column's record says of its place: how the places of a table lie, how many of a column's bytes stand in its place, what the
 -- need counts of it, and the capacity that it gets when places grow.
-use Rattle.std.specs.Prelude.{◌≡◌, ℕ, ◌+◌, ◌<◌, ◌≤◌, min, max, Bool, true, false, List, [], ◌∷◌, take, Some, None, Option, slice_index_or}
+use Rattle.std.specs.Prelude.{◌≡◌, ℕ, ◌+◌, ◌<◌, ◌≤◌, min, max, Bool, true, false, List, length, take, sum_by, Some, None, Option, slice_index_or}
 use Rattle.mysql.specs.Types.{has, size_of}
 use Rattle.host.specs.declared.records.BindRecord.{BindRecord}
 use Rattle.host.specs.declared.records.Report.{Report}
@@ -16,20 +16,19 @@ bind_of c = record { code = c.code; unsigned = has c.flags 32; start = c.start; 
 
 -- the capacities of columns, added up
 abbrev pub total : List ColumnRecord → ℕ
-total [] = 0
-total (c ∷ cs) = c.capacity + total cs
+total cs = sum_by (λ c. c.capacity) cs
 
 -- where the first n places end
 abbrev pub span : ℕ → List ColumnRecord → ℕ
 span n cs = total (take n cs)
 
--- each of the first n places begins where those before it end
-abbrev pub Lies : ℕ → List ColumnRecord → Type 0
-Lies n cs = (k : ℕ) → k < n → (slice_index_or cs k no_record).start ≡ span k cs
+-- each place begins where those before it end
+abbrev pub Lies : List ColumnRecord → Type 0
+Lies cs = (k : ℕ) → k < length cs → (slice_index_or cs k no_record).start ≡ span k cs
 
 -- each has a byte at least
-abbrev pub SomeRoom : ℕ → List ColumnRecord → Type 0
-SomeRoom n cs = (k : ℕ) → k < n → 1 ≤ (slice_index_or cs k no_record).capacity
+abbrev pub SomeRoom : List ColumnRecord → Type 0
+SomeRoom cs = (k : ℕ) → k < length cs → 1 ≤ (slice_index_or cs k no_record).capacity
 
 -- how many bytes a value has: at a fixed code its size, whatever was reported, elsewhere the reported length
 abbrev pub bytes_by : Option ℕ → ℕ → ℕ
@@ -37,8 +36,8 @@ bytes_by (Some size) told = size
 bytes_by None told = told
 
 -- each place of a fixed code has its size
-abbrev pub Sized : ℕ → List ColumnRecord → Type 0
-Sized n cs = (k : ℕ) → k < n → bytes_by (size_of (slice_index_or cs k no_record).code) (slice_index_or cs k no_record).capacity ≡ (slice_index_or cs k no_record).capacity
+abbrev pub Sized : List ColumnRecord → Type 0
+Sized cs = (k : ℕ) → k < length cs → bytes_by (size_of (slice_index_or cs k no_record).code) (slice_index_or cs k no_record).capacity ≡ (slice_index_or cs k no_record).capacity
 
 abbrev pub bytes_of : ColumnRecord → ℕ
 bytes_of c = bytes_by (size_of c.code) c.length
@@ -71,8 +70,7 @@ wanted true c = counted (size_of c.code) c.is_null c.length
 wanted false c = widened (size_of c.code) c.is_null c.capacity c.length
 
 abbrev pub sum : Bool → List ColumnRecord → ℕ
-sum tight [] = 0
-sum tight (c ∷ cs) = wanted tight c + sum tight cs
+sum tight cs = sum_by (wanted tight) cs
 
 -- a text is longer than its place
 pub record Over (c : ColumnRecord) : Type 0 where

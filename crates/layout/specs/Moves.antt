@@ -2,7 +2,7 @@
 use Rattle.std.specs.Prelude.{◌≡◌, ℕ, ◌+◌, ◌<◌, ◌≤◌, List, length, Some, None, Option, slice_index}
 use Rattle.layout.specs.declared.table.ColumnTable.{ColumnTable}
 use Rattle.layout.specs.Columns.{kept}
-use Rattle.layout.specs.Tables.{col, start, end, need, Grown}
+use Rattle.layout.specs.Tables.{count_of, col, start, end, need, Grown}
 
 -- bytes from n on are as they were
 abbrev pub Beyond : ℕ → List ℕ → List ℕ → Type 0
@@ -10,7 +10,7 @@ Beyond n a b = (p : ℕ) → n ≤ p → slice_index b p ≡ slice_index a p
 
 -- the kept bytes of each column stood at `from` in a, and stand at `to` in b
 abbrev pub Carried : ColumnTable → (from to : ℕ → ℕ) → List ℕ → List ℕ → Type 0
-Carried t from to a b = (k : ℕ) → k < t.count → (j : ℕ) → j < kept (col t k) → slice_index b (to k + j) ≡ slice_index a (from k + j)
+Carried t from to a b = (k : ℕ) → k < count_of t → (j : ℕ) → j < kept (col t k) → slice_index b (to k + j) ≡ slice_index a (from k + j)
 
 -- the places grew, and the kept bytes moved along; past the new places nothing changed
 pub record Moved (old : ColumnTable) (a : List ℕ) (new : ColumnTable) (b : List ℕ) : Type 0 where

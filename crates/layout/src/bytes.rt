@@ -10,10 +10,7 @@ impl ColumnRecord {
     pub fn byte_count(&self) -> u64
         ensures { result ≡ bytes_of self.now }
     {
-        match known_buffer_size_for_ffi_type(self.code) {
-            Some(size) => size as u64,
-            None => self.length,
-        }
+        known_buffer_size_for_ffi_type(self.code).map_or(self.length, |size| size as u64)
     }
 
     // Whether it is a text that is longer than its place.
@@ -21,10 +18,9 @@ impl ColumnRecord {
         ensures yes { result ≡ true → Over self.now }
         ensures no { result ≡ false → Over self.now → ⊥ }
     {
-        match known_buffer_size_for_ffi_type(self.code) {
-            Some(_) => false,
-            None => !self.is_null && self.length > self.capacity as u64,
-        }
+        known_buffer_size_for_ffi_type(self.code).is_none()
+            && !self.is_null
+            && self.length > self.capacity as u64
     }
 
     // Whether a figure was lost: a code of one size, marked truncated.
@@ -32,10 +28,7 @@ impl ColumnRecord {
         ensures yes { result ≡ true → Lost self.now }
         ensures no { result ≡ false → Lost self.now → ⊥ }
     {
-        match known_buffer_size_for_ffi_type(self.code) {
-            Some(_) => self.is_truncated,
-            None => false,
-        }
+        known_buffer_size_for_ffi_type(self.code).is_some() && self.is_truncated
     }
 
     // How many of its bytes stand in its place: none of a null.
@@ -43,9 +36,10 @@ impl ColumnRecord {
         ensures { result ≡ kept_of self.now }
     {
         if self.is_null {
-            return 0;
+            0
+        } else {
+            self.capacity.min(self.byte_count() as usize)
         }
-        self.capacity.min(self.byte_count() as usize)
     }
 
     // What the need counts of it, which is its capacity in a tight layout: the size that all values of its code have, or else its
@@ -68,17 +62,6 @@ impl ColumnRecord {
             self.length as usize
         } else {
             self.capacity
-        }
-    }
-
-    // Its capacity in a tight or a wide layout.
-    pub(crate) fn wanted(&self, tight: bool) -> usize
-        ensures { result ≡ wanted_of tight self.now }
-    {
-        if tight {
-            self.counted()
-        } else {
-            self.widened()
         }
     }
 }

@@ -1,11 +1,15 @@
 // Places that grow, so that a row fits which did not.
-ghost use Rattle.std.specs.Prelude.{◌≡◌, ◌<◌, ◌≤◌, MatchOption};
+ghost use Rattle.std.specs.Prelude.{◌≡◌, ℕ, ◌<◌, ◌≤◌, Bool, MatchOption};
+ghost use Rattle.std.specs.Fn.{FnReturnsAt};
+ghost use Rattle.layout.specs.declared.record.ColumnRecord.{ColumnRecord as Record};
+ghost use Rattle.layout.specs.Columns.{wanted};
 ghost use Rattle.layout.specs.Tables.{Grown, Relaid, sum_of, need};
 ghost use Rattle.layout.specs.Moves.{Grows};
 
 use crate::moves::{left, right};
-use crate::record::{ColumnRecord, NO_RECORD};
+use crate::record::ColumnRecord;
 use crate::table::ColumnTable;
+use arrayvec::ArrayVec;
 
 impl ColumnTable {
     // The table with places that what was reported fits, once the bytes that stand in the old places are moved to the new ones, inside
@@ -16,54 +20,38 @@ impl ColumnTable {
         if arena.len() < self.room {
             return None;
         }
-        match self.grown() {
-            Some(new) => {
-                right(arena, self, &new);
-                left(arena, self, &new);
-                Some(new)
-            }
-            None => None,
-        }
+        let new = self.grown()?;
+        right(arena, self, &new);
+        left(arena, self, &new);
+        Some(new)
     }
 
     // The table with its new places: a wide layout if the arena is long enough for it, else a tight one.
     pub(crate) fn grown(&self) -> Option<ColumnTable>
         ensures { MatchOption result (self.now.room < need self.now) (Grown self.now) }
     {
-        match self.relaid(false) {
+        match self.relaid(ColumnRecord::widened) {
             Some(wide) => Some(wide),
-            None => self.relaid(true),
+            None => self.relaid(ColumnRecord::counted),
         }
     }
 
-    // The same columns, one after another, with the capacities that they get in a tight or a wide layout. None where the arena is too
-    // short for these.
-    pub(crate) fn relaid(&self, tight: bool) -> Option<ColumnTable>
-        ensures { MatchOption result (self.now.room < sum_of tight self.now) (λ t. (sum_of tight self.now ≤ self.now.room) × (Relaid tight self.now t)) }
+    // The same columns, one after another, with these capacities. None where the arena is too short for these.
+    pub(crate) fn relaid<F: Fn(&ColumnRecord) -> usize>(&self, capacity: F) -> Option<ColumnTable>
+        requires callable { F.IsAlwaysCallable capacity }
+        requires layout { (tight : Bool) × ((c : Record) (n : ℕ) → FnReturnsAt F.Fn capacity c n → n ≡ wanted tight c) }
+        ensures { (tight : Bool) → ((c : Record) (n : ℕ) → FnReturnsAt F.Fn capacity c n → n ≡ wanted tight c) → MatchOption result (self.now.room < sum_of tight self.now) (λ t. (sum_of tight self.now ≤ self.now.room) × (Relaid tight self.now t)) }
     {
-        let mut columns = [NO_RECORD; 64];
-        let mut at = 0;
-        for i in 0..self.count {
-            let old = self.columns[i];
-            let capacity = old.wanted(tight);
-            if capacity > self.room - at {
-                return None;
-            }
-            columns[i] = ColumnRecord {
-                code: old.code,
-                flags: old.flags,
-                start: at,
-                capacity,
-                length: old.length,
-                is_null: old.is_null,
-                is_truncated: old.is_truncated,
-            };
-            at += capacity;
-        }
-        Some(ColumnTable {
-            columns,
-            count: self.count,
+        let mut table = ColumnTable {
+            columns: ArrayVec::new(),
             room: self.room,
-        })
+        };
+        for column in self.columns.iter() {
+            table.push(ColumnRecord {
+                capacity: capacity(column),
+                ..*column
+            })?;
+        }
+        Some(table)
     }
 }

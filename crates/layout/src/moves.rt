@@ -23,7 +23,7 @@ pub(crate) fn right(arena: &mut [u8], old: &ColumnTable, new: &ColumnTable)
     ensures carried { Carried old.now (start old.now) (λ k. max (start old.now k) (start new.now k)) arena.old arena.new }
     ensures beyond { Beyond (end new.now) arena.old arena.new }
 {
-    for i in (0..old.count).rev() {
+    for i in (0..old.columns.len()).rev() {
         let column = old.columns[i];
         let to = new.columns[i].start;
         if column.start < to {
@@ -39,7 +39,7 @@ pub(crate) fn left(arena: &mut [u8], old: &ColumnTable, new: &ColumnTable)
     ensures carried { Carried old.now (λ k. max (start old.now k) (start new.now k)) (start new.now) arena.old arena.new }
     ensures beyond { Beyond (end new.now) arena.old arena.new }
 {
-    for i in 0..old.count {
+    for i in 0..old.columns.len() {
         let column = old.columns[i];
         let to = new.columns[i].start;
         if to < column.start {

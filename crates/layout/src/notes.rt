@@ -1,13 +1,11 @@
 // What was reported of the columns, noted in the table, and what is asked of it.
-ghost use Rattle.std.specs.Prelude.{◌≡◌, ◌≤◌, true, false, length, take, MatchOption};
-ghost use Rattle.layout.specs.Tables.{NotedAt, Noted, SamePlaces, AllFit, NoneLost, LowestLost, binds, end as end_of};
+ghost use Rattle.std.specs.Prelude.{◌≡◌, ◌<◌, ◌≤◌, true, false, length, IfSome, MatchOption};
+ghost use Rattle.layout.specs.Tables.{count_of, NotedAt, Noted, SamePlaces, AllFit, NoneLost, LowestLost, binds, end as end_of};
 
 use crate::record::ColumnRecord;
 use crate::table::ColumnTable;
+use arrayvec::ArrayVec;
 use host::{BindRecord, Report};
-
-// The flag of a whole number without a sign.
-const UNSIGNED: u32 = 32;
 
 impl ColumnTable {
     // Notes what was reported of column `i`, if there is one.
@@ -15,23 +13,14 @@ impl ColumnTable {
         ensures noted { NotedAt i self.old report self.new }
         ensures places { SamePlaces self.old self.new }
     {
-        if i < self.count {
-            let old = self.columns[i];
-            self.columns[i] = ColumnRecord {
-                code: old.code,
-                flags: old.flags,
-                start: old.start,
-                capacity: old.capacity,
-                length: report.length,
-                is_null: report.is_null,
-                is_truncated: report.is_truncated,
-            };
+        if let Some(column) = self.columns.get_mut(i) {
+            column.note(report);
         }
     }
 
     // Notes the report of each column that has one.
     pub fn note_all(&mut self, reports: &[Report])
-        ensures noted { self.old.count ≤ length reports.now → Noted self.old reports.now self.new }
+        ensures noted { count_of self.old ≤ length reports.now → Noted self.old reports.now self.new }
         ensures places { SamePlaces self.old self.new }
     {
         for i in 0..reports.len() {
@@ -41,14 +30,10 @@ impl ColumnTable {
 
     // The lowest column of a fixed size that is marked truncated.
     pub fn lost(&self) -> Option<usize>
-        ensures { MatchOption result (NoneLost self.now) (LowestLost self.now) }
+        ensures lowest { MatchOption result (NoneLost self.now) (LowestLost self.now) }
+        ensures few { IfSome result (λ i. i < 64) }
     {
-        for i in 0..self.count {
-            if self.columns[i].is_lost() {
-                return Some(i);
-            }
-        }
-        None
+        self.columns.iter().position(ColumnRecord::is_lost)
     }
 
     // Whether what was reported of each column fits its place.
@@ -56,32 +41,16 @@ impl ColumnTable {
         ensures yes { result ≡ true → AllFit self.now }
         ensures no { result ≡ false → AllFit self.now → ⊥ }
     {
-        for i in 0..self.count {
-            if self.columns[i].is_over() {
-                return false;
-            }
-        }
-        true
+        !self.columns.iter().any(ColumnRecord::is_over)
     }
 
-    // What the host is to be told of the columns; past the last one there is nothing that counts.
-    pub fn bind_records(&self) -> [BindRecord; 64]
-        ensures { take self.now.count result ≡ binds self.now }
+    // What the host is to be told of the columns.
+    pub fn bind_records(&self) -> ArrayVec<BindRecord, 64>
+        ensures { result.items ≡ binds self.now }
     {
-        let mut records = [BindRecord {
-            code: 0,
-            unsigned: false,
-            start: 0,
-            capacity: 0,
-        }; 64];
-        for i in 0..self.count {
-            let column = self.columns[i];
-            records[i] = BindRecord {
-                code: column.code,
-                unsigned: column.flags & UNSIGNED != 0,
-                start: column.start,
-                capacity: column.capacity,
-            };
+        let mut records = ArrayVec::new();
+        for column in self.columns.iter() {
+            records.push(BindRecord::from(*column));
         }
         records
     }
@@ -90,10 +59,9 @@ impl ColumnTable {
     pub fn end(&self) -> usize
         ensures { result ≡ end_of self.now }
     {
-        if self.count == 0 {
-            return 0;
+        match self.columns.last() {
+            Some(last) => last.start + last.capacity,
+            None => 0,
         }
-        let last = self.columns[self.count - 1];
-        last.start + last.capacity
     }
 }

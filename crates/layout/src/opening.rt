@@ -1,10 +1,12 @@
-// The table at an opening.
-ghost use Rattle.std.specs.Prelude.{◌≡◌};
+// The table at an opening, and one column more of a table.
+ghost use Rattle.std.specs.Prelude.{◌≡◌, ◌+◌, ◌<◌, ◌≤◌, MatchOption};
 ghost use Rattle.mysql.specs.Types.{size_of};
-ghost use Rattle.layout.specs.Tables.{Opens, first_capacity};
+ghost use Rattle.layout.specs.Columns.{bytes_by};
+ghost use Rattle.layout.specs.Tables.{Opens, Added, first_capacity, count_of, end as end_of};
 
-use crate::record::{ColumnRecord, NO_RECORD};
+use crate::record::ColumnRecord;
 use crate::table::ColumnTable;
+use arrayvec::ArrayVec;
 use mysql::{Column, known_buffer_size_for_ffi_type};
 
 // The most columns and the most bytes of arena that there can be.
@@ -15,12 +17,11 @@ const MOST_BYTES: usize = 65536;
 impl ColumnTable {
     // The table of no session: no columns, and no room.
     pub fn new() -> ColumnTable
-        ensures count { result.count ≡ 0 }
+        ensures count { count_of result ≡ 0 }
         ensures room { result.room ≡ 0 }
     {
         ColumnTable {
-            columns: [NO_RECORD; 64],
-            count: 0,
+            columns: ArrayVec::new(),
             room: 0,
         }
     }
@@ -30,34 +31,37 @@ impl ColumnTable {
     pub fn opening(columns: &[Column], room: usize) -> Option<ColumnTable>
         ensures { Opens columns.now room result }
     {
-        let count = columns.len();
-        if count > MOST_COLUMNS || room > MOST_BYTES {
+        if columns.len() > MOST_COLUMNS || room > MOST_BYTES {
             return None;
         }
-        let mut records = [NO_RECORD; 64];
-        let mut at = 0;
-        for i in 0..count {
-            let column = columns[i];
-            let capacity = least_capacity(column.code);
-            if capacity > room - at {
-                return None;
-            }
-            records[i] = ColumnRecord {
+        let mut table = ColumnTable {
+            columns: ArrayVec::new(),
+            room,
+        };
+        for column in columns {
+            table.push(ColumnRecord {
                 code: column.code,
                 flags: column.flags,
-                start: at,
-                capacity,
-                length: 0,
-                is_null: false,
-                is_truncated: false,
-            };
-            at += capacity;
+                capacity: least_capacity(column.code),
+                ..ColumnRecord::default()
+            })?;
         }
-        Some(ColumnTable {
-            columns: records,
-            count,
-            room,
-        })
+        Some(table)
+    }
+
+    // Adds a column, in a place of its capacity after the last one. None where the arena is too short for it.
+    pub(crate) fn push(&mut self, column: ColumnRecord) -> Option<()>
+        requires few { count_of self.old < 64 }
+        requires some { 1 ≤ column.capacity }
+        requires sized { bytes_by (size_of column.code) column.capacity ≡ column.capacity }
+        ensures { MatchOption result (self.old.room < end_of self.old + column.capacity) (λ _. Added column self.old self.new) }
+    {
+        let start = self.end();
+        if column.capacity > self.room - start {
+            return None;
+        }
+        self.columns.push(ColumnRecord { start, ..column });
+        Some(())
     }
 }
 
@@ -65,8 +69,5 @@ impl ColumnTable {
 fn least_capacity(code: u8) -> usize
     ensures { result ≡ first_capacity (size_of code) }
 {
-    match known_buffer_size_for_ffi_type(code) {
-        Some(size) => size,
-        None => 1,
-    }
+    known_buffer_size_for_ffi_type(code).unwrap_or(1)
 }

@@ -1,8 +1,13 @@
 // A column of an opened session.
+ghost use Rattle.std.specs.Prelude.{◌≡◌};
+ghost use Rattle.layout.specs.Columns.{bind_of, noted};
+
+use host::{BindRecord, Report};
+use mysql::Column;
 
 // The code and flags that it is bound with, its place in the arena, and what the host last reported of it: the length of its bytes in
 // full, whether it is null, and whether bytes or a figure were lost.
-#[derive(Clone, Copy)]
+#[derive(Clone, Copy, Default)]
 pub struct ColumnRecord {
     pub code: u8,
     pub flags: u32,
@@ -13,13 +18,34 @@ pub struct ColumnRecord {
     pub is_truncated: bool,
 }
 
-// What a table holds past its last column.
-pub(crate) const NO_RECORD: ColumnRecord = ColumnRecord {
-    code: 0,
-    flags: 0,
-    start: 0,
-    capacity: 0,
-    length: 0,
-    is_null: false,
-    is_truncated: false,
-};
+impl ColumnRecord {
+    // Notes what was reported of the column.
+    pub(crate) fn note(&mut self, report: Report)
+        ensures { self.new ≡ noted self.old report }
+    {
+        *self = ColumnRecord {
+            length: report.length,
+            is_null: report.is_null,
+            is_truncated: report.is_truncated,
+            ..*self
+        };
+    }
+}
+
+// What the host is to be told of a column.
+impl From<ColumnRecord> for BindRecord {
+    ghost from_gives = { λ column told. told ≡ bind_of column };
+
+    fn from(column: ColumnRecord) -> BindRecord {
+        let pair = Column {
+            code: column.code,
+            flags: column.flags,
+        };
+        BindRecord {
+            code: column.code,
+            unsigned: pair.is_unsigned(),
+            start: column.start,
+            capacity: column.capacity,
+        }
+    }
+}

@@ -11,7 +11,7 @@ use Rattle.host.specs.Meanings.{Row, Meaning}
 use Rattle.host.specs.Calls.{no_record as no_bind, truncates, record_of, Reported}
 use Rattle.layout.specs.declared.table.ColumnTable.{ColumnTable}
 use Rattle.layout.specs.Columns.{bytes_by, bind_of}
-use Rattle.layout.specs.Tables.{no_pair, col, binds}
+use Rattle.layout.specs.Tables.{count_of, no_pair, col, binds}
 use Rattle.layout.proofs.Binding.{binds_length, binds_at}
 use Rattle.rows.specs.Bounds.{all_carried}
 use Rattle.rows.specs.Standing.{pair_of, pairs_of}
@@ -19,12 +19,12 @@ use Rattle.rows.specs.Settling.{column_field, NotLost, Current}
 use Rattle.rows.proofs.Pairs.{pairs_length, pair_at}
 
 -- tables with the same pairs
-pub same_pairs : (t u : ColumnTable) → t.count ≡ u.count → ((k : ℕ) → k < u.count → pair_of (col t k) ≡ pair_of (col u k)) → pairs_of t ≡ pairs_of u
+pub same_pairs : (t u : ColumnTable) → count_of t ≡ count_of u → ((k : ℕ) → k < count_of u → pair_of (col t k) ≡ pair_of (col u k)) → pairs_of t ≡ pairs_of u
 same_pairs t u e h =
     ext_get_or no_pair (pairs_of t) (pairs_of u) (pairs_length t ∙ e ∙ sym (pairs_length u))
-    (λ k l. let m : k < u.count = omega (arith, pairs_length t) in pair_at t k (omega (arith, e)) ∙ h k m ∙ sym (pair_at u k m))
+    (λ k l. let m : k < count_of u = omega (arith, pairs_length t) in pair_at t k (omega (arith, e)) ∙ h k m ∙ sym (pair_at u k m))
 
-pub pair_same : (t u : ColumnTable) → pairs_of t ≡ pairs_of u → t.count ≡ u.count → (k : ℕ) → k < u.count → pair_of (col t k) ≡ pair_of (col u k)
+pub pair_same : (t u : ColumnTable) → pairs_of t ≡ pairs_of u → count_of t ≡ count_of u → (k : ℕ) → k < count_of u → pair_of (col t k) ≡ pair_of (col u k)
 pair_same t u e n k l = sym (pair_at t k (omega (arith, n))) ∙ ap (λ (ps : List Column). get_or ps k no_pair) e ∙ pair_at u k l
 
 -- a field as a size wants it
@@ -46,7 +46,7 @@ carried_at carries i (p ∷ ps) e (suc k) l =
     let z : suc i + k ≡ i + suc k = omega arith in
     subst (λ (n : ℕ). carries n (get_or ps k no_pair).code ≡ true) z (carried_at carries (suc i) ps (and_parts (carries i p.code) (all_carried carries (suc i) ps) e).1 k (omega arith))
 
-module _ (m : Meaning) (r : Row) (t : ColumnTable) (h : Current m r t) (k : ℕ) (l : k < t.count) where
+module _ (m : Meaning) (r : Row) (t : ColumnTable) (h : Current m r t) (k : ℕ) (l : k < count_of t) where
   -- so the row's field is as that code wants it
   field_fits : FieldAt (col t k).code (column_field r t k)
   field_fits =

@@ -1,5 +1,6 @@
 -- What the reports of a row say of it: its need, the capacities that it asks for, and whether a figure of it was lost.
 use Rattle.std.proofs.Common.{◌≡◌, ℕ, zero, suc, ◌+◌, ◌<◌, max, Bool, true, false, cond, ◌||◌, ltb, List, [], ◌∷◌, map, length, get_or, Some, None, Option, sym, refl, ap, ◌∙◌, arith}
+use Rattle.std.proofs.lemmas.List.Sums.{sum_by-cons}
 use Rattle.std.proofs.lemmas.Bool.{le-ltb, ltb-true, ltb-false}
 use Rattle.mysql.specs.declared.bind.Column.{Column}
 use Rattle.mysql.specs.Types.{size_of}
@@ -46,7 +47,7 @@ module _ (r : Row) where
       let z : i + 0 ≡ i = omega arith in
       let first : wanted true c ≡ field_need (size_of c.code) (field_at r i (pair_of c)) = h 0 (omega arith) ∙ ap (λ (n : ℕ). field_need (size_of c.code) (field_at r n (pair_of c))) z in
       let rest = need_is (suc i) cs (λ k l. let y : i + suc k ≡ suc i + k = omega arith in h (suc k) (omega arith) ∙ ap (λ (n : ℕ). field_need (size_of (get_or cs k no_record).code) (field_at r n (pair_of (get_or cs k no_record)))) y) in
-      ap (λ (n : ℕ). n + sum true cs) first ∙ ap (λ (n : ℕ). field_need (size_of c.code) (field_at r i (pair_of c)) + n) rest
+      sum_by-cons (wanted true) c cs ∙ ap (λ (n : ℕ). n + sum true cs) first ∙ ap (λ (n : ℕ). field_need (size_of c.code) (field_at r i (pair_of c)) + n) rest
 
   abbrev pub wide_at : ℕ → ColumnRecord → ℕ
   wide_at k c = widened_to (size_of c.code) (field_at r k (pair_of c)) c.capacity
@@ -59,7 +60,7 @@ module _ (r : Row) where
       let z : i + 0 ≡ i = omega arith in
       let first : wanted false c ≡ wide_at i d = h 0 (omega arith) ∙ ap (λ (n : ℕ). wide_at n d) z in
       let rest = wide_is (suc i) cs ds (omega arith) (λ k l. let y : i + suc k ≡ suc i + k = omega arith in h (suc k) (omega arith) ∙ ap (λ (n : ℕ). wide_at n (get_or ds k no_record)) y) in
-      ap (λ (n : ℕ). n + sum false cs) first ∙ ap (λ (n : ℕ). wide_at i d + n) rest
+      sum_by-cons (wanted false) c cs ∙ ap (λ (n : ℕ). n + sum false cs) first ∙ ap (λ (n : ℕ). wide_at i d + n) rest
 
   abbrev pub loses_at : ℕ → Column → Bool
   loses_at k p = loses (size_of p.code) (field_at r k p)

@@ -10,7 +10,7 @@ use Rattle.host.specs.Meanings.{Row, Meaning}
 use Rattle.host.specs.Calls.{bind_error, bound_list, after_bind, Reported, Stands}
 use Rattle.layout.specs.declared.table.ColumnTable.{ColumnTable}
 use Rattle.layout.specs.Columns.{kept, Fits}
-use Rattle.layout.specs.Tables.{col, start, binds, SamePlaces, NoneLost, AllFit}
+use Rattle.layout.specs.Tables.{count_of, col, start, binds, SamePlaces, NoneLost, AllFit}
 use Rattle.layout.specs.Moves.{Moved}
 use Rattle.layout.proofs.Spans.{kept_le}
 use Rattle.layout.proofs.Binding.{same_bind}
@@ -33,10 +33,10 @@ carried_on null from to n n' a b l h s = tt
 carried_on (held lost bs) from to n n' a b l h s = λ j q. h j (omega arith) ∙ s j (omega arith)
 
 module _ (m : Meaning) (r : Row) (old : ColumnTable) (a : List ℕ) (row : RowIn m r old a) (none : NoneLost old) where
-  pub known : (k : ℕ) → k < old.count → FieldOf (size_of (col old k).code) (column_field r old k)
+  pub known : (k : ℕ) → k < count_of old → FieldOf (size_of (col old k).code) (column_field r old k)
   known k l = field_known m r old row.current k l
 
-  pub clean : (k : ℕ) → k < old.count → NotLost (column_field r old k)
+  pub clean : (k : ℕ) → k < count_of old → NotLost (column_field r old k)
   clean k l = clean_by (column_field r old k) (size_of (col old k).code) (col old k).capacity (report_of (col old k)) (known k l) (row.reported k l) (λ n e t. none k l (record { size = n; fixed = e; marked = t }))
 
   module _ (new : ColumnTable) (b : List ℕ) (moved : Moved old a new b) where
@@ -49,13 +49,13 @@ module _ (m : Meaning) (r : Row) (old : ColumnTable) (a : List ℕ) (row : RowIn
     }
 
     module _ (n : Meaning) (t : ColumnTable) (b' : List ℕ) (places : SamePlaces new t) (w : Whole m r old new b n t b') where
-      count_is : t.count ≡ old.count
+      count_is : count_of t ≡ count_of old
       count_is = places.count ∙ moved.grown.laid.count
 
-      capacity_is : (k : ℕ) → k < old.count → (col t k).capacity ≡ (col new k).capacity
+      capacity_is : (k : ℕ) → k < count_of old → (col t k).capacity ≡ (col new k).capacity
       capacity_is k l = ap (λ (x : BindRecord). x.capacity) (same_bind new t places k (omega (arith, moved.grown.laid.count)))
 
-      fits_by : (k : ℕ) → k < old.count → (f : Field) → column_field r old k ≡ f → StandsWhole f (col t k) b' → Fits (col t k)
+      fits_by : (k : ℕ) → k < count_of old → (f : Field) → column_field r old k ≡ f → StandsWhole f (col t k) b' → Fits (col t k)
       fits_by k l null e s z = let y : ◌≡◌ {A = ℕ} 0 1 = (let x : true ≡ false = sym s ∙ z in cc) in absurd (omega arith)
       fits_by k l (held lost bs) e s z =
           let told = subst (λ (f : Field). Reported f (col old k).capacity (report_of (col old k))) e (row.reported k l) in
@@ -63,7 +63,7 @@ module _ (m : Meaning) (r : Row) (old : ColumnTable) (a : List ℕ) (row : RowIn
           omega (arith, s.1, held_bytes (size_of (col old k).code) lost bs (col old k).length kn told.1, new_bytes old new moved.grown k l told.0, capacity_is k l)
 
       pub all_fit : AllFit t
-      all_fit k l = let o : k < old.count = omega (arith, count_is) in fits_by k o (column_field r old k) refl (w.whole k o)
+      all_fit k l = let o : k < count_of old = omega (arith, count_is) in fits_by k o (column_field r old k) refl (w.whole k o)
 
       pairs_is : pairs_of t ≡ pairs_of old
       pairs_is = same_pairs t old count_is w.pairs

@@ -1,13 +1,13 @@
 -- The columns of a table as pairs of code and flags, and what a host answers to its places.
 use Rattle.std.proofs.Common.{◌≡◌, ℕ, suc, ◌-◌, ◌<◌, Bool, true, false, cond, ◌&&◌, List, [], ◌∷◌, map, length, get_or, take, sym, refl, ap, ◌∙◌, arith}
-use Rattle.std.proofs.lemmas.List.{get_or-map, get_or-take, length-map, length-take}
+use Rattle.std.proofs.lemmas.List.{get_or-map, length-map}
 use Rattle.std.proofs.lemmas.Bool.{eq-eqb}
 use Rattle.host.specs.Meanings.{Meaning}
 use Rattle.host.specs.Calls.{in_order, carried, bind_error}
 use Rattle.layout.specs.declared.record.ColumnRecord.{ColumnRecord}
 use Rattle.layout.specs.declared.table.ColumnTable.{ColumnTable}
 use Rattle.layout.specs.Columns.{no_record, bind_of}
-use Rattle.layout.specs.Tables.{no_pair, col, binds}
+use Rattle.layout.specs.Tables.{count_of, no_pair, col, binds}
 use Rattle.layout.proofs.Binding.{binds_length, binds_in_order}
 use Rattle.rows.specs.Bounds.{all_carried}
 use Rattle.rows.specs.Standing.{pair_of, pairs_of}
@@ -18,18 +18,11 @@ not_both b p q = let z : ◌≡◌ {A = ℕ} 0 1 = (let e : true ≡ false = sym
 -- the columns of a table, as pairs
 
 module _ (t : ColumnTable) where
-  pub pairs_length : length (pairs_of t) ≡ t.count
-  pairs_length = let s = t.small in let f = t.full in length-map (take t.count t.columns) pair_of ∙ length-take t.count t.columns ∙ omega arith
+  pub pairs_length : length (pairs_of t) ≡ count_of t
+  pairs_length = length-map t.columns.items pair_of
 
-  pub pair_at : (k : ℕ) → k < t.count → get_or (pairs_of t) k no_pair ≡ pair_of (col t k)
-  pair_at k l =
-      let s = t.small in let f = t.full in
-      let m : k < length (take t.count t.columns) = simp length-take (omega arith) in
-      get_or-map pair_of (take t.count t.columns) k no_record no_pair m ∙ ap pair_of (get_or-take t.count t.columns k no_record l)
-
--- a part of an array from its front
-pub front_is : {X : Type 0} (n : ℕ) (xs ys : List X) → take n xs ≡ ys → take (n - 0) xs ≡ ys
-front_is n xs ys e = let z : n - 0 ≡ n = omega arith in ap (λ (k : ℕ). take k xs) z ∙ e
+  pub pair_at : (k : ℕ) → k < count_of t → get_or (pairs_of t) k no_pair ≡ pair_of (col t k)
+  pair_at k l = get_or-map pair_of t.columns.items k no_record no_pair l
 
 -- the host carries the codes of the places where it carries those of the pairs
 carried_is : (m : Meaning) (k : ℕ) (cs : List ColumnRecord) → carried m k (map bind_of cs) ≡ all_carried m.carries k (map pair_of cs)
@@ -37,9 +30,9 @@ carried_is m k [] = refl
 carried_is m k (c ∷ cs) = ap (λ (b : Bool). m.carries k c.code && b) (carried_is m (suc k) cs)
 
 -- so a bind to a table's places is granted, or refused for a code
-pub bind_error_is : (m : Meaning) (t : ColumnTable) → t.count ≡ length m.columns → bind_error m (binds t) ≡ cond (all_carried m.carries 0 (pairs_of t)) 0 2036
+pub bind_error_is : (m : Meaning) (t : ColumnTable) → count_of t ≡ length m.columns → bind_error m (binds t) ≡ cond (all_carried m.carries 0 (pairs_of t)) 0 2036
 bind_error_is m t e =
     let n : length (binds t) ≡ length m.columns = binds_length t ∙ e in
     ap (λ (b : Bool). cond (b && in_order 0 (binds t)) (cond (carried m 0 (binds t)) 0 2036) 2034) (eq-eqb (length (binds t)) (length m.columns) n)
     ∙ ap (λ (b : Bool). cond b (cond (carried m 0 (binds t)) 0 2036) 2034) (binds_in_order t)
-    ∙ ap (λ (b : Bool). cond b 0 2036) (carried_is m 0 (take t.count t.columns))
+    ∙ ap (λ (b : Bool). cond b 0 2036) (carried_is m 0 t.columns.items)

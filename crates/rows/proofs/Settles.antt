@@ -1,6 +1,5 @@
 -- A row that the host wrote and reported: shown or refused, and what is then in the table.
 use Rattle.std.proofs.Common.{◌≡◌, ℕ, ◌+◌, ◌<◌, ◌≤◌, Bool, true, false, cond, ltb, List, length, get_or, take, Some, None, Ok, Err, Option, sym, refl, ap, ◌∙◌, subst, arith}
-use Rattle.std.proofs.lemmas.List.{length-take, get_or-take}
 use Rattle.std.proofs.lemmas.Bool.{le-leb, lt-leb, le-ltb, lt-ltb}
 use Rattle.mysql.specs.declared.bind.Column.{Column}
 use Rattle.mysql.specs.declared.fault.Fault.{Fault}
@@ -15,7 +14,7 @@ use Rattle.host.specs.Calls.{Reported, Stands}
 use Rattle.layout.specs.declared.record.ColumnRecord.{ColumnRecord}
 use Rattle.layout.specs.declared.table.ColumnTable.{ColumnTable}
 use Rattle.layout.specs.Columns.{no_record, wanted, Fits, Lost}
-use Rattle.layout.specs.Tables.{no_pair, col, binds, sum_of, need, Noted, SamePlaces, AllFit, NoneLost, LowestLost}
+use Rattle.layout.specs.Tables.{count_of, no_pair, col, binds, sum_of, need, Noted, SamePlaces, AllFit, NoneLost, LowestLost}
 use Rattle.layout.proofs.Binding.{sized_at}
 use Rattle.layout.proofs.Wanting.{fits_need, fits_wide, fits_sum}
 use Rattle.rows.specs.declared.answers.Fetch.TheVariants as fetch
@@ -53,23 +52,23 @@ module _ (m : Meaning) (r : Row) (t : ColumnTable) (rs : List Report) (a : List 
   in_row = record {
     current = now_current;
     room = written.room ∙ got.room;
-    reported = λ k l. let o : k < t.count = omega (arith, written.count) in
+    reported = λ k l. let o : k < count_of t = omega (arith, written.count) in
         subst (λ (c : ColumnRecord). Reported (field_at r k (pair_of c)) c.capacity (report_of c)) (sym (written.each k o)) (got.reported k o);
-    stands = λ k l. let o : k < t.count = omega (arith, written.count) in
+    stands = λ k l. let o : k < count_of t = omega (arith, written.count) in
         subst (λ (c : ColumnRecord). Stands (field_at r k (pair_of c)) c.start c.capacity a) (sym (written.each k o)) (got.stands k o);
   }
 
-  reported_in : (k : ℕ) → k < u.count → Reported (column_field r u k) (col u k).capacity (report_of (col u k))
+  reported_in : (k : ℕ) → k < count_of u → Reported (column_field r u k) (col u k).capacity (report_of (col u k))
   reported_in = in_row.reported
 
   -- a column loses a figure exactly where it is marked
-  loses_yes : (k : ℕ) → k < u.count → Lost (col u k) → loses_at r k (pair_of (col u k)) ≡ true
+  loses_yes : (k : ℕ) → k < count_of u → Lost (col u k) → loses_at r k (pair_of (col u k)) ≡ true
   loses_yes k l h =
       ap (λ (z : Option ℕ). loses z (column_field r u k)) h.fixed
       ∙ loses_is (column_field r u k) h.size (col u k).capacity (report_of (col u k)) (subst (λ (z : Option ℕ). FieldOf z (column_field r u k)) h.fixed (field_known m r u now_current k l)) (sized_at u k l h.size h.fixed) (reported_in k l)
       ∙ h.marked
 
-  loses_no : (k : ℕ) → k < u.count → (Lost (col u k) → ⊥) → loses_at r k (pair_of (col u k)) ≡ false
+  loses_no : (k : ℕ) → k < count_of u → (Lost (col u k) → ⊥) → loses_at r k (pair_of (col u k)) ≡ false
   loses_no k l h = by_size (size_of (col u k).code) refl
     where
       by_mark : (n : ℕ) → size_of (col u k).code ≡ Some n → (b : Bool) → (col u k).is_truncated ≡ b → b ≡ false
@@ -82,76 +81,64 @@ module _ (m : Meaning) (r : Row) (t : ColumnTable) (rs : List Report) (a : List 
           loses_is (column_field r u k) n (col u k).capacity (report_of (col u k)) (subst (λ (z : Option ℕ). FieldOf z (column_field r u k)) e (field_known m r u now_current k l)) (sized_at u k l n e) (reported_in k l)
           ∙ by_mark n e (col u k).is_truncated refl
 
-  at_pair : (k : ℕ) → k < u.count → (b : Bool) → loses_at r k (pair_of (col u k)) ≡ b → (i : ℕ) → i ≡ k → loses_at r i (get_or (pairs_of t) k no_pair) ≡ b
+  at_pair : (k : ℕ) → k < count_of u → (b : Bool) → loses_at r k (pair_of (col u k)) ≡ b → (i : ℕ) → i ≡ k → loses_at r i (get_or (pairs_of t) k no_pair) ≡ b
   at_pair k l b e i z =
       ap (λ (n : ℕ). loses_at r n (get_or (pairs_of t) k no_pair)) z
       ∙ ap (λ (ps : List Column). loses_at r k (get_or ps k no_pair)) (sym pairs_stay)
       ∙ ap (loses_at r k) (pair_at u k l) ∙ e
 
-  long : length (pairs_of t) ≡ u.count
+  long : length (pairs_of t) ≡ count_of u
   long = pairs_length t ∙ sym written.count
 
   no_loss : NoneLost u → first_loss r 0 (pairs_of t) ≡ None
-  no_loss h = none_lost r 0 (pairs_of t) (λ k l. let o : k < u.count = omega (arith, long) in at_pair k o false (loses_no k o (h k o)) (0 + k) (omega arith))
+  no_loss h = none_lost r 0 (pairs_of t) (λ k l. let o : k < count_of u = omega (arith, long) in at_pair k o false (loses_no k o (h k o)) (0 + k) (omega arith))
 
   a_loss : (i : ℕ) → LowestLost u i → first_loss r 0 (pairs_of t) ≡ Some i
   a_loss i h =
       let z : 0 + i ≡ i = omega arith in
       lowest_lost r 0 (pairs_of t) i (omega (arith, long, h.within))
-      (λ j l. let o : j < u.count = omega (arith, h.within) in at_pair j o false (loses_no j o (h.lowest j l)) (0 + j) (omega arith))
+      (λ j l. let o : j < count_of u = omega (arith, h.within) in at_pair j o false (loses_no j o (h.lowest j l)) (0 + j) (omega arith))
       (at_pair i h.within true (loses_yes i h.within h.lost) (0 + i) z)
       ∙ ap Some z
 
   -- the need, and the wide sum
 
-  columns_long : length (take u.count u.columns) ≡ u.count
-  columns_long = let s = u.small in let f = u.full in simp length-take (omega arith)
-
-  at_column_of : (k : ℕ) → k < u.count → get_or (take u.count u.columns) k no_record ≡ col u k
-  at_column_of k l = get_or-take u.count u.columns k no_record l
-
   need_same : need u ≡ row_need r 0 (pairs_of t)
   need_same =
-      need_is r 0 (take u.count u.columns) (λ k l.
-      let o : k < u.count = omega (arith, columns_long) in
+      need_is r 0 u.columns.items (λ k l.
       let z : 0 + k ≡ k = omega arith in
-      subst (λ (c : ColumnRecord). wanted true c ≡ field_need (size_of c.code) (field_at r (0 + k) (pair_of c))) (sym (at_column_of k o))
-      (counted_is (column_field r u k) (size_of (col u k).code) (col u k).capacity (report_of (col u k)) (reported_in k o)
-      ∙ ap (λ (n : ℕ). field_need (size_of (col u k).code) (field_at r n (pair_of (col u k)))) (sym z)))
+      counted_is (column_field r u k) (size_of (col u k).code) (col u k).capacity (report_of (col u k)) (reported_in k l)
+      ∙ ap (λ (n : ℕ). field_need (size_of (col u k).code) (field_at r n (pair_of (col u k)))) (sym z))
       ∙ ap (row_need r 0) pairs_stay
 
-  wide_one : (k : ℕ) → k < u.count → wanted false (col u k) ≡ wide_at r k (col t k)
+  wide_one : (k : ℕ) → k < count_of u → wanted false (col u k) ≡ wide_at r k (col t k)
   wide_one k l =
-      let o : k < t.count = omega (arith, written.count) in
+      let o : k < count_of t = omega (arith, written.count) in
       widened_is (column_field r u k) (size_of (col u k).code) (col u k).capacity (report_of (col u k)) (reported_in k l)
       ∙ ap (wide_at r k) (written.each k o)
 
-  wide_same : sum_of false u ≡ wide_sum r 0 (take t.count t.columns)
+  wide_same : sum_of false u ≡ wide_sum r 0 t.columns.items
   wide_same =
-      let s = t.small in let f = t.full in
-      let lt : length (take t.count t.columns) ≡ t.count = simp length-take (omega arith) in
-      wide_is r 0 (take u.count u.columns) (take t.count t.columns) (columns_long ∙ written.count ∙ sym lt) (λ k l.
-      let o : k < u.count = omega (arith, columns_long) in
+      wide_is r 0 u.columns.items t.columns.items written.count (λ k l.
       let z : 0 + k ≡ k = omega arith in
-      ap (wanted false) (at_column_of k o) ∙ wide_one k o ∙ ap (λ (n : ℕ). wide_at r n (col t k)) (sym z)
-      ∙ ap (wide_at r (0 + k)) (sym (get_or-take t.count t.columns k no_record (omega (arith, written.count)))))
+      wide_one k l ∙ ap (λ (n : ℕ). wide_at r n (col t k)) (sym z))
 
   -- the capacity that the rule gives
 
-  rule_wide : sum_of false u ≤ u.room → (k : ℕ) → k < t.count → wanted false (col u k) ≡ capacity_after r t k
+  rule_wide : sum_of false u ≤ u.room → (k : ℕ) → k < count_of t → wanted false (col u k) ≡ capacity_after r t k
   rule_wide h k l =
-      let o : k < u.count = omega (arith, written.count) in
+      let o : k < count_of u = omega (arith, written.count) in
       wide_one k o
-      ∙ sym (ap (λ (b : Bool). cond b (wide_at r k (col t k)) (field_need (size_of (col t k).code) (column_field r t k))) (le-leb (wide_sum r 0 (take t.count t.columns)) t.room (omega (arith, wide_same, written.room))))
+      ∙ sym (ap (λ (b : Bool). cond b (wide_at r k (col t k)) (field_need (size_of (col t k).code) (column_field r t k))) (le-leb (wide_sum r 0 t.columns.items) t.room (omega (arith, wide_same, written.room))))
 
-  rule_tight : u.room < sum_of false u → (k : ℕ) → k < t.count → wanted true (col u k) ≡ capacity_after r t k
+  rule_tight : u.room < sum_of false u → (k : ℕ) → k < count_of t → wanted true (col u k) ≡ capacity_after r t k
   rule_tight h k l =
-      let o : k < u.count = omega (arith, written.count) in
+      let o : k < count_of u = omega (arith, written.count) in
       counted_is (column_field r u k) (size_of (col u k).code) (col u k).capacity (report_of (col u k)) (reported_in k o)
       ∙ ap (λ (c : ColumnRecord). field_need (size_of c.code) (field_at r k (pair_of c))) (written.each k l)
-      ∙ sym (ap (λ (b : Bool). cond b (wide_at r k (col t k)) (field_need (size_of (col t k).code) (column_field r t k))) (lt-leb (wide_sum r 0 (take t.count t.columns)) t.room (omega (arith, wide_same, written.room))))
+      ∙ sym (ap (λ (b : Bool). cond b (wide_at r k (col t k)) (field_need (size_of (col t k).code) (column_field r t k))) (lt-leb (wide_sum r 0 t.columns.items) t.room (omega (arith, wide_same, written.room))))
 
-  rule : (tight : Bool) → (tight ≡ true → u.room < sum_of false u) → (tight ≡ false → sum_of false u ≤ u.room) → (k : ℕ) → k < t.count → wanted tight (col u k) ≡ capacity_after r t k
+  rule : (tight : Bool) → (tight ≡ true → u.room < sum_of false u) → (tight ≡ false → sum_of false u ≤ u.room) → (k : ℕ) → k < count_of t → wanted tight (col u k) ≡ capacity_after r t k
   rule true x y = rule_tight (x refl)
   rule false x y = rule_wide (y refl)
 
@@ -195,11 +182,11 @@ module _ (m : Meaning) (r : Row) (t : ColumnTable) (rs : List Report) (a : List 
       count = written.count;
       room = written.room;
       pairs = pairs_stay;
-      capacities = λ k l. let o : k < u.count = omega (arith, written.count) in sym (fits_wide (col u k) (fit k o)) ∙ rule_wide (fits_sum u fit) k l;
-      reported = λ k l. let o : k < u.count = omega (arith, written.count) in
+      capacities = λ k l. let o : k < count_of u = omega (arith, written.count) in sym (fits_wide (col u k) (fit k o)) ∙ rule_wide (fits_sum u fit) k l;
+      reported = λ k l. let o : k < count_of u = omega (arith, written.count) in
           subst (λ (p : Column). Reported (field_at r k p) (col u k).capacity (report_of (col u k))) (pair_same u t pairs_stay written.count k l) (reported_in k o);
     };
-    whole = λ k l. let o : k < u.count = omega (arith, written.count) in
+    whole = λ k l. let o : k < count_of u = omega (arith, written.count) in
         fits_whole (column_field r u k) (col u k) a (field_known m r u now_current k o) (reported_in k o) (fit k o) (in_row.stands k o);
     outside = λ p _ _. refl;
     host =
@@ -210,7 +197,7 @@ module _ (m : Meaning) (r : Row) (t : ColumnTable) (rs : List Report) (a : List 
   pub shows_grown : NoneLost u → (t' : ColumnTable) (m' : Meaning) (a' : List ℕ) → Grew m r u a t' m' a' → Shows m r t a m' t' a'
   shows_grown h t' m' a' w =
       let same : pairs_of t' ≡ pairs_of t = w.pairs ∙ pairs_stay in
-      let as_many : t'.count ≡ t.count = w.count ∙ written.count in
+      let as_many : count_of t' ≡ count_of t = w.count ∙ written.count in
       record {
         due = shown_due h w.enough;
         table = record {
@@ -220,7 +207,7 @@ module _ (m : Meaning) (r : Row) (t : ColumnTable) (rs : List Report) (a : List 
           capacities = λ k l. w.capacities k (omega (arith, written.count)) ∙ rule w.tight w.rule_tight w.rule_wide k l;
           reported = λ k l. subst (λ (p : Column). Reported (field_at r k p) (col t' k).capacity (report_of (col t' k))) (pair_same u t pairs_stay written.count k l) (w.reported k (omega (arith, written.count)));
         };
-        whole = λ k l. let o : k < u.count = omega (arith, written.count) in
+        whole = λ k l. let o : k < count_of u = omega (arith, written.count) in
             subst (λ (p : Column). StandsWhole (field_at r k p) (col t' k) a') (sym (pair_same t' u w.pairs w.count k o)) (w.whole k o);
         outside = λ p _ l. w.beyond p l;
         host = w.host;

@@ -12,7 +12,7 @@ use Rattle.host.specs.Calls.{with_error, from_offset, Reported, PartReported, St
 use Rattle.layout.specs.declared.record.ColumnRecord.{ColumnRecord}
 use Rattle.layout.specs.declared.table.ColumnTable.{ColumnTable}
 use Rattle.layout.specs.Columns.{bytes_by, bytes_of, kept, kept_if, noted, moved, wanted, Over, Fits}
-use Rattle.layout.specs.Tables.{col, start, end, Grown, SamePlaces, NotedAt}
+use Rattle.layout.specs.Tables.{count_of, col, start, end, Grown, SamePlaces, NotedAt}
 use Rattle.layout.specs.Moves.{Beyond}
 use Rattle.layout.proofs.Spans.{apart, inside}
 use Rattle.layout.proofs.Binding.{same_bind}
@@ -24,11 +24,11 @@ use Rattle.rows.proofs.Columned.{field_known, held_bytes, not_truncated, FieldOf
 -- the columns below i stand whole, the others have their kept bytes in place
 pub record WholeTo (i : ℕ) (m : Meaning) (r : Row) (old new : ColumnTable) (a : List ℕ) (n : Meaning) (t : ColumnTable) (b : List ℕ) : Type 0 where
   pub host : n ≡ m
-  pub pairs : (k : ℕ) → k < old.count → pair_of (col t k) ≡ pair_of (col old k)
-  pub reported : (k : ℕ) → k < i → k < old.count → Reported (column_field r old k) (col t k).capacity (report_of (col t k))
-  pub whole : (k : ℕ) → k < i → k < old.count → StandsWhole (column_field r old k) (col t k) b
-  pub same : (k : ℕ) → i ≤ k → k < old.count → col t k ≡ col new k
-  pub stands : (k : ℕ) → i ≤ k → k < old.count → Stands (column_field r old k) (start new k) (kept (col old k)) b
+  pub pairs : (k : ℕ) → k < count_of old → pair_of (col t k) ≡ pair_of (col old k)
+  pub reported : (k : ℕ) → k < i → k < count_of old → Reported (column_field r old k) (col t k).capacity (report_of (col t k))
+  pub whole : (k : ℕ) → k < i → k < count_of old → StandsWhole (column_field r old k) (col t k) b
+  pub same : (k : ℕ) → i ≤ k → k < count_of old → col t k ≡ col new k
+  pub stands : (k : ℕ) → i ≤ k → k < count_of old → Stands (column_field r old k) (start new k) (kept (col old k)) b
   pub beyond : Beyond (end new) a b
 
 -- one column, whose field is known
@@ -101,7 +101,7 @@ same_bytes : (c d : ColumnRecord) → pair_of c ≡ pair_of d → c.length ≡ d
 same_bytes c d e n = ap (λ (p : Column). bytes_by (size_of p.code) c.length) e ∙ ap (bytes_by (size_of d.code)) n
 
 module _ (old new : ColumnTable) (g : Grown old new) (m : Meaning) (r : Row) (a : List ℕ) (half : Half m r old new a) where
-  new_pair : (k : ℕ) → k < old.count → pair_of (col new k) ≡ pair_of (col old k)
+  new_pair : (k : ℕ) → k < count_of old → pair_of (col new k) ≡ pair_of (col old k)
   new_pair k l = ap pair_of (g.laid.each k l)
 
   pub whole_none : WholeTo 0 m r old new a m new a
@@ -115,10 +115,10 @@ module _ (old new : ColumnTable) (g : Grown old new) (m : Meaning) (r : Row) (a 
     beyond = λ p l. refl;
   }
 
-  known : (k : ℕ) → k < old.count → FieldOf (size_of (col old k).code) (column_field r old k)
+  known : (k : ℕ) → k < count_of old → FieldOf (size_of (col old k).code) (column_field r old k)
   known k l = field_known m r old half.current k l
 
-  module _ (i : ℕ) (l : i < old.count) (n : Meaning) (t : ColumnTable) (b : List ℕ) (w : WholeTo i m r old new a n t b) where
+  module _ (i : ℕ) (l : i < count_of old) (n : Meaning) (t : ColumnTable) (b : List ℕ) (w : WholeTo i m r old new a n t b) where
     -- a column that fits its old place is whole already
     pub whole_skip : Fits (col old i) → WholeTo (i + 1) m r old new a n t b
     whole_skip fit =
@@ -129,10 +129,10 @@ module _ (old new : ColumnTable) (g : Grown old new) (m : Meaning) (r : Row) (a 
         record {
           host = w.host;
           pairs = w.pairs;
-          reported = below_more (λ k. k < old.count → Reported (column_field r old k) (col t k).capacity (report_of (col t k))) i w.reported
+          reported = below_more (λ k. k < count_of old → Reported (column_field r old k) (col t k).capacity (report_of (col t k))) i w.reported
               (λ _. subst (λ (d : ColumnRecord). Reported f d.capacity (report_of d)) (sym is)
               (reported_at f (size_of c.code) c.capacity (wanted g.tight c) (report_of c) (known i l) (half.clean i l) fit new_room (half.reported i l)));
-          whole = below_more (λ k. k < old.count → StandsWhole (column_field r old k) (col t k) b) i w.whole
+          whole = below_more (λ k. k < count_of old → StandsWhole (column_field r old k) (col t k) b) i w.whole
               (λ _. subst (λ (d : ColumnRecord). StandsWhole f d b) (sym is)
               (skipped f (size_of c.code) c (start new i) (wanted g.tight c) b refl (known i l) (half.reported i l) fit (w.stands i (omega arith) l)));
           same = λ k h. w.same k (omega arith);
@@ -146,7 +146,7 @@ module _ (old new : ColumnTable) (g : Grown old new) (m : Meaning) (r : Row) (a 
         (after : (p : ℕ) → start new i + (col old i).length ≤ p → get_or b' p 0 ≡ get_or b p 0)
         (got : PartGot n (column_field r old i) (col old i).capacity report n' (start new i + (col old i).capacity) (start new i + (col old i).length) b')
         (noted_in : NotedAt i t report u) where
-      inside_new : (k : ℕ) → k < old.count → start new k + (col new k).capacity ≤ end new
+      inside_new : (k : ℕ) → k < count_of old → start new k + (col new k).capacity ≤ end new
       inside_new k o = inside new k (omega (arith, g.laid.count))
 
       here : col u i ≡ noted (col t i) report
@@ -167,13 +167,13 @@ module _ (old new : ColumnTable) (g : Grown old new) (m : Meaning) (r : Row) (a 
       -- a column before i keeps what it has
       earlier : (k : ℕ) → k < i → (j : ℕ) → (col t k).is_null ≡ false → j < bytes_of (col t k) → get_or b' ((col t k).start + j) 0 ≡ get_or b ((col t k).start + j) 0
       earlier k h j z q =
-          let o : k < old.count = omega arith in
+          let o : k < count_of old = omega arith in
           let st : (col t k).start ≡ start new k = ap (λ (x : BindRecord). x.start) (same_bind new t places k (omega (arith, g.laid.count))) in
           let cp : (col t k).capacity ≡ (col new k).capacity = ap (λ (x : BindRecord). x.capacity) (same_bind new t places k (omega (arith, g.laid.count))) in
           let fits = whole_fits k o (column_field r old k) refl (w.whole k h o) z in
           before ((col t k).start + j) (omega (arith, apart new k i h (omega (arith, g.laid.count)), st))
         where
-          whole_fits : (k : ℕ) → k < old.count → (f : Field) → column_field r old k ≡ f → StandsWhole f (col t k) b → (col t k).is_null ≡ false → bytes_of (col t k) ≤ (col new k).capacity
+          whole_fits : (k : ℕ) → k < count_of old → (f : Field) → column_field r old k ≡ f → StandsWhole f (col t k) b → (col t k).is_null ≡ false → bytes_of (col t k) ≤ (col new k).capacity
           whole_fits k o null e s z = let y : ◌≡◌ {A = ℕ} 0 1 = (let x : true ≡ false = sym s ∙ z in cc) in absurd (omega arith)
           whole_fits k o (held lost bs) e s z =
               let told = subst (λ (f : Field). Reported f (col old k).capacity (report_of (col old k))) e (half.reported k o) in
@@ -196,12 +196,12 @@ module _ (old new : ColumnTable) (g : Grown old new) (m : Meaning) (r : Row) (a 
                 (λ (e : k ≡ i). subst (λ (x : ℕ). pair_of (col u x) ≡ pair_of (col old x)) (sym e) (ap pair_of is_now))
                 (λ (e : k ≢ i). ap pair_of (other k e) ∙ w.pairs k o)
                 (cases_eq k i);
-            reported = below_more (λ k. k < old.count → Reported (column_field r old k) (col u k).capacity (report_of (col u k))) i
+            reported = below_more (λ k. k < count_of old → Reported (column_field r old k) (col u k).capacity (report_of (col u k))) i
                 (λ k h o. subst (λ (d : ColumnRecord). Reported (column_field r old k) d.capacity (report_of d)) (sym (other k (omega arith))) (w.reported k h o))
                 (λ _. subst (λ (z : ℕ). Reported f z (report_of (col u i))) (sym cap)
                 (subst (λ (d : ColumnRecord). Reported f c.length (report_of d)) (sym is_now)
                 (from_part f c report (start new i) b b' over text_known (half.clean i l) (half.reported i l) got.reported)));
-            whole = below_more (λ k. k < old.count → StandsWhole (column_field r old k) (col u k) b') i
+            whole = below_more (λ k. k < count_of old → StandsWhole (column_field r old k) (col u k) b') i
                 (λ k h o. subst (λ (d : ColumnRecord). StandsWhole (column_field r old k) d b') (sym (other k (omega arith))) (still_whole (column_field r old k) (col t k) b b' (earlier k h) (w.whole k h o)))
                 (λ _. part_whole f c report (start new i) b b' over text_known (half.clean i l) (half.reported i l) (col u i)
                 (ap (λ (z : ColumnRecord). z.code) is_now) (ap (λ (z : ColumnRecord). z.start) is_now) (ap (λ (z : ColumnRecord). z.is_null) is_now) (ap (λ (z : ColumnRecord). z.length) is_now)
@@ -214,9 +214,9 @@ module _ (old new : ColumnTable) (g : Grown old new) (m : Meaning) (r : Row) (a 
           }
 
 -- what is missing of a text has room in its new place
-pub over_inside : (old new : ColumnTable) → Grown old new → (i : ℕ) → i < old.count → Over (col old i) → start new i + (col old i).length ≤ old.room
+pub over_inside : (old new : ColumnTable) → Grown old new → (i : ℕ) → i < count_of old → Over (col old i) → start new i + (col old i).length ≤ old.room
 over_inside old new g i l o = let w = new.within in omega (arith, inside new i (omega (arith, g.laid.count)), new_over old new g i l o, g.laid.room)
 
 -- where the places stay, so does a column's start
-pub same_start : (new t : ColumnTable) → SamePlaces new t → (i : ℕ) → i < new.count → start t i ≡ start new i
+pub same_start : (new t : ColumnTable) → SamePlaces new t → (i : ℕ) → i < count_of new → start t i ≡ start new i
 same_start new t p i l = ap (λ (x : BindRecord). x.start) (same_bind new t p i l)

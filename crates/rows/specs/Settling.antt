@@ -11,7 +11,7 @@ use Rattle.host.specs.Meanings.{Row, Meaning, RowFits}
 use Rattle.host.specs.Calls.{no_report, with_error, field_of, from_offset, record_of, Reported, PartReported, Stands}
 use Rattle.layout.specs.declared.table.ColumnTable.{ColumnTable}
 use Rattle.layout.specs.Columns.{kept, wanted}
-use Rattle.layout.specs.Tables.{col, start, end, binds, sum_of, need, SamePlaces}
+use Rattle.layout.specs.Tables.{count_of, col, start, end, binds, sum_of, need, SamePlaces}
 use Rattle.layout.specs.Moves.{Beyond}
 use Rattle.rows.specs.declared.answers.Fetch.{Fetch}
 use Rattle.rows.specs.declared.answers.Fetch.TheVariants as fetch
@@ -33,7 +33,7 @@ pub record Current (m : Meaning) (r : Row) (t : ColumnTable) : Type 0 where
   pub current : m.current ≡ Some r
   pub places : m.bound ≡ Some (binds t)
   pub no_error : m.error ≡ 0
-  pub as_many : t.count ≡ length m.columns
+  pub as_many : count_of t ≡ length m.columns
   pub carried : all_carried m.carries 0 (pairs_of t) ≡ true
   pub fits : RowFits m r
 
@@ -41,16 +41,16 @@ pub record Current (m : Meaning) (r : Row) (t : ColumnTable) : Type 0 where
 pub record RowGot (m : Meaning) (r : Row) (t : ColumnTable) (reports : List Report) (a : List ℕ) : Type 0 where
   pub current : Current m r t
   pub room : t.room ≡ length a
-  pub as_many : length reports ≡ t.count
-  pub reported : (k : ℕ) → k < t.count → Reported (column_field r t k) (col t k).capacity (slice_index_or reports k no_report)
-  pub stands : (k : ℕ) → k < t.count → Stands (column_field r t k) (start t k) (col t k).capacity a
+  pub as_many : length reports ≡ count_of t
+  pub reported : (k : ℕ) → k < count_of t → Reported (column_field r t k) (col t k).capacity (slice_index_or reports k no_report)
+  pub stands : (k : ℕ) → k < count_of t → Stands (column_field r t k) (start t k) (col t k).capacity a
 
 -- the reports are in the table
 pub record RowIn (m : Meaning) (r : Row) (t : ColumnTable) (a : List ℕ) : Type 0 where
   pub current : Current m r t
   pub room : t.room ≡ length a
-  pub reported : (k : ℕ) → k < t.count → Reported (column_field r t k) (col t k).capacity (report_of (col t k))
-  pub stands : (k : ℕ) → k < t.count → Stands (column_field r t k) (start t k) (col t k).capacity a
+  pub reported : (k : ℕ) → k < count_of t → Reported (column_field r t k) (col t k).capacity (report_of (col t k))
+  pub stands : (k : ℕ) → k < count_of t → Stands (column_field r t k) (start t k) (col t k).capacity a
 
 -- growth
 
@@ -71,16 +71,16 @@ PartInto m r b column offset report m' from to a' = m.current ≡ Some r → rec
 -- the table `old` has a row's reports, and what was kept of the row stands in the places of `new`
 pub record Half (m : Meaning) (r : Row) (old new : ColumnTable) (a : List ℕ) : Type 0 where
   pub current : Current m r old
-  pub reported : (k : ℕ) → k < old.count → Reported (column_field r old k) (col old k).capacity (report_of (col old k))
-  pub clean : (k : ℕ) → k < old.count → NotLost (column_field r old k)
-  pub stands : (k : ℕ) → k < old.count → Stands (column_field r old k) (start new k) (kept (col old k)) a
+  pub reported : (k : ℕ) → k < count_of old → Reported (column_field r old k) (col old k).capacity (report_of (col old k))
+  pub clean : (k : ℕ) → k < count_of old → NotLost (column_field r old k)
+  pub stands : (k : ℕ) → k < count_of old → Stands (column_field r old k) (start new k) (kept (col old k)) a
 
 -- all of it stands there
 pub record Whole (m : Meaning) (r : Row) (old new : ColumnTable) (a : List ℕ) (m' : Meaning) (t : ColumnTable) (a' : List ℕ) : Type 0 where
   pub host : m' ≡ m
-  pub pairs : (k : ℕ) → k < old.count → pair_of (col t k) ≡ pair_of (col old k)
-  pub reported : (k : ℕ) → k < old.count → Reported (column_field r old k) (col t k).capacity (report_of (col t k))
-  pub whole : (k : ℕ) → k < old.count → StandsWhole (column_field r old k) (col t k) a'
+  pub pairs : (k : ℕ) → k < count_of old → pair_of (col t k) ≡ pair_of (col old k)
+  pub reported : (k : ℕ) → k < count_of old → Reported (column_field r old k) (col t k).capacity (report_of (col t k))
+  pub whole : (k : ℕ) → k < count_of old → StandsWhole (column_field r old k) (col t k) a'
   pub beyond : Beyond (end new) a a'
 
 abbrev pub WholeAs : Bool → Meaning → Row → (old new : ColumnTable) → List ℕ → Meaning → ColumnTable → List ℕ → Type 0
@@ -90,15 +90,15 @@ WholeAs false m r old new a m' t a' = ⊥
 -- the places grew: the capacities are wide, or tight where the wide ones exceed the arena
 pub record Grew (m : Meaning) (r : Row) (old : ColumnTable) (a : List ℕ) (t : ColumnTable) (m' : Meaning) (a' : List ℕ) : Type 0 where
   pub enough : need old ≤ old.room
-  pub count : t.count ≡ old.count
+  pub count : count_of t ≡ count_of old
   pub room : t.room ≡ old.room
   pub pairs : pairs_of t ≡ pairs_of old
   pub tight : Bool
   pub rule_tight : tight ≡ true → old.room < sum_of false old
   pub rule_wide : tight ≡ false → sum_of false old ≤ old.room
-  pub capacities : (k : ℕ) → k < old.count → (col t k).capacity ≡ wanted tight (col old k)
-  pub reported : (k : ℕ) → k < old.count → Reported (column_field r old k) (col t k).capacity (report_of (col t k))
-  pub whole : (k : ℕ) → k < old.count → StandsWhole (column_field r old k) (col t k) a'
+  pub capacities : (k : ℕ) → k < count_of old → (col t k).capacity ≡ wanted tight (col old k)
+  pub reported : (k : ℕ) → k < count_of old → Reported (column_field r old k) (col t k).capacity (report_of (col t k))
+  pub whole : (k : ℕ) → k < count_of old → StandsWhole (column_field r old k) (col t k) a'
   pub beyond : Beyond (end t) a a'
   pub host : m' ≡ record { columns = m.columns; carries = m.carries; coming = m.coming; current = m.current; bound = Some (binds t); error = 0 }
 
@@ -122,7 +122,7 @@ row_answer r t = row_fetched (first_loss r 0 (pairs_of t)) (nat_lt t.room (row_n
 pub record Shows (m : Meaning) (r : Row) (t : ColumnTable) (a : List ℕ) (m' : Meaning) (t' : ColumnTable) (a' : List ℕ) : Type 0 where
   pub due : row_answer r t ≡ Ok fetch.Row
   pub table : Regrown r t t'
-  pub whole : (k : ℕ) → k < t.count → StandsWhole (column_field r t' k) (col t' k) a'
+  pub whole : (k : ℕ) → k < count_of t → StandsWhole (column_field r t' k) (col t' k) a'
   pub outside : (p : ℕ) → end t ≤ p → end t' ≤ p → slice_index a' p ≡ slice_index a p
   pub host : m' ≡ record { columns = m.columns; carries = m.carries; coming = m.coming; current = m.current; bound = Some (binds t'); error = 0 }
 
@@ -131,7 +131,7 @@ pub record Refuses (m : Meaning) (r : Row) (t : ColumnTable) (a : List ℕ) (f :
   pub due : row_answer r t ≡ Err f
   pub places : SamePlaces t t'
   pub pairs : pairs_of t' ≡ pairs_of t
-  pub reported : (k : ℕ) → k < t.count → Reported (column_field r t k) (col t k).capacity (report_of (col t' k))
+  pub reported : (k : ℕ) → k < count_of t → Reported (column_field r t k) (col t k).capacity (report_of (col t' k))
   pub host : m' ≡ m
   pub same_arena : a' ≡ a
 

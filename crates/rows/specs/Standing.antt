@@ -9,7 +9,7 @@ use Rattle.host.specs.Calls.{Reported}
 use Rattle.layout.specs.declared.record.ColumnRecord.{ColumnRecord}
 use Rattle.layout.specs.declared.table.ColumnTable.{ColumnTable}
 use Rattle.layout.specs.Columns.{bytes_of}
-use Rattle.layout.specs.Tables.{col}
+use Rattle.layout.specs.Tables.{count_of, col}
 use Rattle.rows.specs.Bounds.{field_at, field_need}
 
 -- the code and flags that a column of a table is bound with
@@ -17,7 +17,7 @@ abbrev pub pair_of : ColumnRecord → Column
 pair_of c = record { code = c.code; flags = c.flags }
 
 abbrev pub pairs_of : ColumnTable → List Column
-pairs_of t = map pair_of (take t.count t.columns)
+pairs_of t = map pair_of t.columns.items
 
 -- what was last reported of a column
 abbrev pub report_of : ColumnRecord → Report
@@ -41,14 +41,14 @@ wide_sum r k (c ∷ cs) = widened_to (size_of c.code) (field_at r k (pair_of c))
 -- where that sum exceeds the arena, each column gets what the need counts
 abbrev pub capacity_after : Row → ColumnTable → ℕ → ℕ
 capacity_after r t k =
-    cond (nat_le (wide_sum r 0 (take t.count t.columns)) t.room)
+    cond (nat_le (wide_sum r 0 t.columns.items) t.room)
     (widened_to (size_of (col t k).code) (field_at r k (pair_of (col t k))) (col t k).capacity)
     (field_need (size_of (col t k).code) (field_at r k (pair_of (col t k))))
 
 -- a table after a row was shown: the marks are as the host last reported them
 pub record Regrown (r : Row) (t t' : ColumnTable) : Type 0 where
-  pub count : t'.count ≡ t.count
+  pub count : count_of t' ≡ count_of t
   pub room : t'.room ≡ t.room
   pub pairs : pairs_of t' ≡ pairs_of t
-  pub capacities : (k : ℕ) → k < t.count → (col t' k).capacity ≡ capacity_after r t k
-  pub reported : (k : ℕ) → k < t.count → Reported (field_at r k (pair_of (col t k))) (col t' k).capacity (report_of (col t' k))
+  pub capacities : (k : ℕ) → k < count_of t → (col t' k).capacity ≡ capacity_after r t k
+  pub reported : (k : ℕ) → k < count_of t → Reported (field_at r k (pair_of (col t k))) (col t' k).capacity (report_of (col t' k))

@@ -54,9 +54,7 @@ fn grow<H: Host>(host: &mut H, old: &ColumnTable, arena: &mut [u8]) -> Result<Co
     if !fetch_missing(host, old, &mut new, arena) || !new.fits() {
         return Err(Fault::host(host.error_number()));
     }
-    let records = new.bind_records();
-    let count = new.count;
-    if !host.bind(&records[0..count]) {
+    if !host.bind(new.bind_records().as_slice()) {
         return Err(Fault::host(host.error_number()));
     }
     Ok(new)
@@ -74,7 +72,7 @@ fn fetch_missing<H: Host>(
     ensures places { SamePlaces new.old new.new }
     ensures came { (row : Row) → Half (H.Host.meaning host.old) row old.now new.old arena.old → WholeAs result (H.Host.meaning host.old) row old.now new.old arena.old (H.Host.meaning host.new) new.new arena.new }
 {
-    for i in 0..old.count {
+    for i in 0..old.columns.len() {
         let column = old.columns[i];
         if column.is_over() {
             let start = new.columns[i].start;

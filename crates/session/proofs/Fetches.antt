@@ -9,7 +9,7 @@ use Rattle.host.specs.Meanings.{Row, Event, row, failure, Meaning, RowFits, Curr
 use Rattle.host.specs.Calls.{no_record as no_bind, no_report, all_end_by, allows, InPlace, Untouched, Reported, Stands, field_of, FailureCame, RowCame}
 use Rattle.layout.specs.declared.table.ColumnTable.{ColumnTable}
 use Rattle.layout.specs.Columns.{bind_of}
-use Rattle.layout.specs.Tables.{col, end, binds}
+use Rattle.layout.specs.Tables.{count_of, col, end, binds}
 use Rattle.layout.specs.Moves.{Beyond}
 use Rattle.layout.proofs.Binding.{binds_length, binds_at, binds_end_by, in_place_inside}
 use Rattle.rows.specs.declared.answers.Fetch.{Fetch}
@@ -38,7 +38,7 @@ module _ {H : Type 0} (m : Meaning) (s : Session H) (sound : Sound m s) (a : Lis
   t = s.table
 
   -- the host allows the fetch
-  pub allowed : (n : ℕ) → n ≡ t.count → allows m (length a) n ≡ true
+  pub allowed : (n : ℕ) → n ≡ count_of t → allows m (length a) n ≡ true
   allowed n e =
       ap (λ (o : Option (List BindRecord)). elim o [ Some bs ↦ all_end_by (length a) bs && eqb n (length m.columns) | None ↦ false ]) (sound.places opened)
       ∙ ap (λ (b : Bool). b && eqb n (length m.columns)) (binds_end_by t (length a) (omega arith))
@@ -66,14 +66,14 @@ module _ {H : Type 0} (m : Meaning) (s : Session H) (sound : Sound m s) (a : Lis
         })
 
   -- a row
-  module _ (truncated : Bool) (m' : Meaning) (rs rs' : List Report) (a' : List ℕ) (w : RowCame truncated m m' rs rs' a a') (formed : Formed m') (reports : length rs ≡ t.count) (same_length : length a' ≡ length a) where
+  module _ (truncated : Bool) (m' : Meaning) (rs rs' : List Report) (a' : List ℕ) (w : RowCame truncated m m' rs rs' a a') (formed : Formed m') (reports : length rs ≡ count_of t) (same_length : length a' ≡ length a) where
     places_are : w.places ≡ binds t
     places_are = same_places w.places (binds t) m.bound w.bound (sound.places opened)
 
-    record_is : (k : ℕ) → k < t.count → get_or w.places k no_bind ≡ bind_of (col t k)
+    record_is : (k : ℕ) → k < count_of t → get_or w.places k no_bind ≡ bind_of (col t k)
     record_is k l = ap (λ (bs : List BindRecord). get_or bs k no_bind) places_are ∙ binds_at t k l
 
-    as_long : (k : ℕ) → k < t.count → k < length w.places
+    as_long : (k : ℕ) → k < count_of t → k < length w.places
     as_long k l = let e = ap length places_are in omega (arith, binds_length t)
 
     pub row_got : RowGot m' w.fields t rs' a'

@@ -4,7 +4,7 @@ use Rattle.std.proofs.lemmas.Bool.{cases_Bool, and_parts}
 use Rattle.mysql.specs.declared.fault.Fault.{Fault}
 use Rattle.host.specs.Meanings.{Row, Event, row, failure, Meaning}
 use Rattle.layout.specs.declared.table.ColumnTable.{ColumnTable}
-use Rattle.layout.specs.Tables.{col, binds}
+use Rattle.layout.specs.Tables.{count_of, col, binds}
 use Rattle.rows.specs.declared.answers.Fetch.{Fetch}
 use Rattle.session.specs.declared.state.Session.{Session}
 use Rattle.rows.specs.Bounds.{all_carried, field_at}
@@ -14,7 +14,7 @@ use Rattle.rows.proofs.Pairs.{not_both}
 
 module _ {H : Type 0} (m m' : Meaning) (s s' : Session H) (sound : Sound m s) (opened : s.opened ≡ true) where
   -- where the columns stay as they are bound, and the host is bound to the places
-  kept_sound : m'.columns ≡ m.columns → m'.carries ≡ m.carries → m'.bound ≡ Some (binds s'.table) → s'.table.count ≡ s.table.count → pairs_of s'.table ≡ pairs_of s.table
+  kept_sound : m'.columns ≡ m.columns → m'.carries ≡ m.carries → m'.bound ≡ Some (binds s'.table) → count_of s'.table ≡ count_of s.table → pairs_of s'.table ≡ pairs_of s.table
       → s'.opened ≡ true → (s'.shown ≡ true → m'.current ≡ None → ⊥) → Sound m' s'
   kept_sound cs rs b n ps o some = record {
     places = λ _. b;
@@ -28,7 +28,7 @@ module _ {H : Type 0} (m m' : Meaning) (s s' : Session H) (sound : Sound m s) (o
   same_table e rest error h o no_row =
       kept_sound (ap (λ (x : Meaning). x.columns) h) (ap (λ (x : Meaning). x.carries) h)
       (ap (λ (x : Meaning). x.bound) h ∙ sound.places opened ∙ ap (λ (t : ColumnTable). Some (binds t)) (sym e))
-      (ap (λ (t : ColumnTable). t.count) e) (ap pairs_of e) o (λ p. not_both s'.shown p no_row)
+      (ap (λ (t : ColumnTable). count_of t) e) (ap pairs_of e) o (λ p. not_both s'.shown p no_row)
 
   after_sound : (a a' : List ℕ) (es : List Event) (x : Result Fetch Fault) → AfterFetch es x m m' s s' a a' → Sound m' s'
   after_sound a a' [] x w = same_table w.table [] 0 w.host w.opened w.no_row

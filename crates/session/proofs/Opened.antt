@@ -9,7 +9,7 @@ use Rattle.mysql.specs.Faults.{refused, host_failed}
 use Rattle.mysql.specs.Taken.{taken_pair}
 use Rattle.host.specs.Meanings.{Meaning}
 use Rattle.layout.specs.declared.table.ColumnTable.{ColumnTable}
-use Rattle.layout.specs.Tables.{col, binds, opening_size}
+use Rattle.layout.specs.Tables.{count_of, col, binds, opening_size}
 use Rattle.rows.proofs.Pairs.{not_both}
 use Rattle.session.specs.declared.answers.Slip.{Slip}
 use Rattle.session.specs.declared.state.Session.{Session}
@@ -22,7 +22,7 @@ module _ {H : Type 0} (m m' : Meaning) (s s' : Session H) (a a' : List ℕ) wher
   refused_sound : (f : Fault) → NotOpened f m m' s s' a a' → Sound m s → Sound m' s'
   refused_sound f n h = record {
     places = λ o. ap (λ (x : Meaning). x.bound) n.host ∙ h.places (sym n.opened ∙ o) ∙ ap (λ (t : ColumnTable). Some (binds t)) (sym n.table);
-    as_many = λ o. ap (λ (t : ColumnTable). t.count) n.table ∙ h.as_many (sym n.opened ∙ o) ∙ ap (λ (x : Meaning). length x.columns) (sym n.host);
+    as_many = λ o. ap (λ (t : ColumnTable). count_of t) n.table ∙ h.as_many (sym n.opened ∙ o) ∙ ap (λ (x : Meaning). length x.columns) (sym n.host);
     carried = λ o.
         ap (λ (x : Meaning). all_carried x.carries 0 (pairs_of s'.table)) n.host
         ∙ ap (λ (t : ColumnTable). all_carried m.carries 0 (pairs_of t)) n.table
@@ -36,7 +36,7 @@ module _ {H : Type 0} (m m' : Meaning) (s s' : Session H) (a a' : List ℕ) wher
     whole = λ r e k l.
         let same : shown_row m' s' ≡ shown_row m s = ap (λ (b : Bool). cond b m'.current None) n.shown ∙ ap (λ (x : Meaning). cond s.shown x.current None) n.host in
         subst (λ (b : List ℕ). StandsWhole (field_at r k (pair_of (col s'.table k))) (col s'.table k) b) (sym n.same_arena)
-        (subst (λ (t : ColumnTable). k < t.count → StandsWhole (field_at r k (pair_of (col t k))) (col t k) a) (sym n.table) (h.whole r (sym same ∙ e) k) l);
+        (subst (λ (t : ColumnTable). k < count_of t → StandsWhole (field_at r k (pair_of (col t k))) (col t k) a) (sym n.table) (h.whole r (sym same ∙ e) k) l);
   }
 
   granted_sound : (pairs : List Column) → Opened m m' s s' pairs a a' → all_carried m.carries 0 pairs ≡ true → length pairs ≡ length m.columns → Sound m' s'

@@ -13,7 +13,7 @@ use Rattle.host.specs.Meanings.{Row, Meaning}
 use Rattle.layout.specs.declared.record.ColumnRecord.{ColumnRecord}
 use Rattle.layout.specs.declared.table.ColumnTable.{ColumnTable}
 use Rattle.layout.specs.Columns.{bytes_of, Fits}
-use Rattle.layout.specs.Tables.{col, start}
+use Rattle.layout.specs.Tables.{count_of, col, start}
 use Rattle.layout.proofs.Spans.{inside}
 use Rattle.rows.proofs.Pairs.{pairs_length, pair_at}
 use Rattle.session.specs.declared.state.Session.{Session}
@@ -23,7 +23,7 @@ use Rattle.rows.specs.Standing.{pair_of, pairs_of, StandsWhole}
 use Rattle.session.specs.Sessions.{Sound, Holds, shown_row, passes, past_checks, record_shown, reading}
 
 -- a value that fits its place ends inside the arena
-pub bytes_inside : (t : ColumnTable) (k : ℕ) → k < t.count → Fits (col t k) → (col t k).is_null ≡ false → start t k + bytes_of (col t k) ≤ t.room
+pub bytes_inside : (t : ColumnTable) (k : ℕ) → k < count_of t → Fits (col t k) → (col t k).is_null ≡ false → start t k + bytes_of (col t k) ≤ t.room
 bytes_inside t k l fit e = omega (arith, inside t k l, fit e, t.within)
 
 both_passed : {X : Type 0} (opened same : Bool) (x y : X) → cond opened (cond same (Ok x) (Err (refused ArenaLength))) (Err (refused Unopened)) ≡ Ok y → (opened ≡ true) × (same ≡ true)
@@ -46,7 +46,7 @@ past s n x p q =
 
 -- bytes that are read where a row is shown and the column is not null
 module _ {H : Type 0} (s : Session H) (a : List ℕ) (k : ℕ) where
-  pub reads_bytes : (tpe : MysqlType) (bytes : List ℕ) → s.opened ≡ true → eqb (length a) s.table.room ≡ true → k < s.table.count → s.shown ≡ true
+  pub reads_bytes : (tpe : MysqlType) (bytes : List ℕ) → s.opened ≡ true → eqb (length a) s.table.room ≡ true → k < count_of s.table → s.shown ≡ true
       → (col s.table k).is_null ≡ false → type_of (col s.table k).code (col s.table k).flags ≡ Ok tpe
       → bytes ≡ take (bytes_of (col s.table k)) (drop (start s.table k) a)
       → Ok (Some (record { tpe = tpe; bytes = bytes })) ≡ reading s a k
@@ -54,8 +54,8 @@ module _ {H : Type 0} (s : Session H) (a : List ℕ) (k : ℕ) where
       let c = col s.table k in
       let there = take (bytes_of c) (drop c.start a) in
       sym (
-      past s (length a) (cond (ltb k s.table.count) (cond s.shown (record_shown k c a) (Err (refused NoCurrentRow))) (Err (refused NoSuchColumn))) p q
-      ∙ ap (λ (z : Bool). cond z (cond s.shown (record_shown k c a) (Err (refused NoCurrentRow))) (Err (refused NoSuchColumn))) (lt-ltb k s.table.count l)
+      past s (length a) (cond (ltb k (count_of s.table)) (cond s.shown (record_shown k c a) (Err (refused NoCurrentRow))) (Err (refused NoSuchColumn))) p q
+      ∙ ap (λ (z : Bool). cond z (cond s.shown (record_shown k c a) (Err (refused NoCurrentRow))) (Err (refused NoSuchColumn))) (lt-ltb k (count_of s.table) l)
       ∙ ap (λ (z : Bool). cond z (record_shown k c a) (Err (refused NoCurrentRow))) h
       ∙ ap (λ (z : Bool). cond z (Ok None) (typed k there (type_of c.code c.flags))) n
       ∙ ap (typed k there) t
@@ -80,7 +80,7 @@ module _ {H : Type 0} (m : Meaning) (s : Session H) (a : List ℕ) (k : ℕ) (so
   t = s.table
 
   -- by the row that is shown
-  by_row : k < t.count → (o : Option Row) (b : Bool) → s.shown ≡ b → shown_row m s ≡ o → cond b m.current None ≡ o
+  by_row : k < count_of t → (o : Option Row) (b : Bool) → s.shown ≡ b → shown_row m s ≡ o → cond b m.current None ≡ o
       → cond b (record_shown k (col t k) a) (Err (refused NoCurrentRow)) ≡ row_shown (pairs_of t) o k
   by_row l None true hs e q = absurd (sound.a_row hs q)
   by_row l None false hs e q = refl
@@ -91,13 +91,13 @@ module _ {H : Type 0} (m : Meaning) (s : Session H) (a : List ℕ) (k : ℕ) (so
       whole_shown k c (field_at r k (pair_of c)) a i (holds.whole r e k l)
       ∙ ap (λ (p : Column). field_shown k p (field_at r k p)) (sym (pair_at t k l))
 
-  by_column : (b : Bool) → ltb k t.count ≡ b → cond b (cond s.shown (record_shown k (col t k) a) (Err (refused NoCurrentRow))) (Err (refused NoSuchColumn)) ≡ cond b (row_shown (pairs_of t) (shown_row m s) k) (Err (refused NoSuchColumn))
-  by_column true e = by_row (ltb-true k t.count e) (shown_row m s) s.shown refl refl refl
+  by_column : (b : Bool) → ltb k (count_of t) ≡ b → cond b (cond s.shown (record_shown k (col t k) a) (Err (refused NoCurrentRow))) (Err (refused NoSuchColumn)) ≡ cond b (row_shown (pairs_of t) (shown_row m s) k) (Err (refused NoSuchColumn))
+  by_column true e = by_row (ltb-true k (count_of t) e) (shown_row m s) s.shown refl refl refl
   by_column false e = refl
 
   pub reads_row : passes s a ≡ true → reading s a k ≡ read (pairs_of t) (shown_row m s) k
   reads_row p =
       let q = and_parts s.opened (eqb (length a) t.room) p in
-      past s (length a) (cond (ltb k t.count) (cond s.shown (record_shown k (col t k) a) (Err (refused NoCurrentRow))) (Err (refused NoSuchColumn))) q.0 q.1
-      ∙ by_column (ltb k t.count) refl
+      past s (length a) (cond (ltb k (count_of t)) (cond s.shown (record_shown k (col t k) a) (Err (refused NoCurrentRow))) (Err (refused NoSuchColumn))) q.0 q.1
+      ∙ by_column (ltb k (count_of t)) refl
       ∙ ap (λ (n : ℕ). cond (ltb k n) (row_shown (pairs_of t) (shown_row m s) k) (Err (refused NoSuchColumn))) (sym (pairs_length t))

@@ -11,7 +11,7 @@ use Rattle.host.specs.Calls.{Reported, with_error}
 use Rattle.layout.specs.declared.record.ColumnRecord.{ColumnRecord}
 use Rattle.layout.specs.declared.table.ColumnTable.{ColumnTable}
 use Rattle.layout.specs.Columns.{bytes_of}
-use Rattle.layout.specs.Tables.{col, binds, end, OpeningTable, SamePlaces}
+use Rattle.layout.specs.Tables.{count_of, col, binds, end, OpeningTable, SamePlaces}
 use Rattle.layout.specs.Moves.{Beyond}
 use Rattle.rows.specs.declared.answers.Fetch.{Fetch}
 use Rattle.rows.specs.Standing.{pair_of, pairs_of, report_of, StandsWhole, Regrown}
@@ -26,7 +26,7 @@ module _ {H : Type 0} where
   -- the host's current row.
   pub record Sound (m : Meaning) (s : Session H) : Type 0 where
     pub places : s.opened ≡ true → m.bound ≡ Some (binds s.table)
-    pub as_many : s.opened ≡ true → s.table.count ≡ length m.columns
+    pub as_many : s.opened ≡ true → count_of s.table ≡ length m.columns
     pub carried : s.opened ≡ true → all_carried m.carries 0 (pairs_of s.table) ≡ true
     pub opened_first : s.shown ≡ true → s.opened ≡ true
     pub a_row : s.shown ≡ true → m.current ≢ None
@@ -37,7 +37,7 @@ module _ {H : Type 0} where
 
   -- the row that is shown stands whole in the arena
   pub record Holds (m : Meaning) (s : Session H) (a : List ℕ) : Type 0 where
-    pub whole : (r : Row) → shown_row m s ≡ Some r → (k : ℕ) → k < s.table.count → StandsWhole (field_at r k (pair_of (col s.table k))) (col s.table k) a
+    pub whole : (r : Row) → shown_row m s ≡ Some r → (k : ℕ) → k < count_of s.table → StandsWhole (field_at r k (pair_of (col s.table k))) (col s.table k) a
 
 -- openings
 
@@ -130,7 +130,7 @@ module _ {H : Type 0} where
     pub no_row : s'.shown ≡ false
     pub places : SamePlaces s.table s'.table
     pub pairs : pairs_of s'.table ≡ pairs_of s.table
-    pub reported : (k : ℕ) → k < s.table.count → Reported (field_at r k (pair_of (col s.table k))) (col s.table k).capacity (report_of (col s'.table k))
+    pub reported : (k : ℕ) → k < count_of s.table → Reported (field_at r k (pair_of (col s.table k))) (col s.table k).capacity (report_of (col s'.table k))
     pub outside : Beyond (end s.table) a a'
 
   -- A row was next, and is shown: it stands whole in the new places, to which the host is bound. Free: the other bytes of the old and the
@@ -140,7 +140,7 @@ module _ {H : Type 0} where
     pub opened : s'.opened ≡ true
     pub shown : s'.shown ≡ true
     pub table : Regrown r s.table s'.table
-    pub whole : (k : ℕ) → k < s.table.count → StandsWhole (field_at r k (pair_of (col s'.table k))) (col s'.table k) a'
+    pub whole : (k : ℕ) → k < count_of s.table → StandsWhole (field_at r k (pair_of (col s'.table k))) (col s'.table k) a'
     pub outside : (p : ℕ) → end s.table ≤ p → end s'.table ≤ p → slice_index a' p ≡ slice_index a p
 
   -- what a fetch that passes its checks leaves, by the event that was next, and for a row by the answer
@@ -166,7 +166,7 @@ module _ {H : Type 0} where
   abbrev pub reading : Session H → List ℕ → ℕ → Result (Option Shown) Fault
   reading s a k =
       past_checks s (length a)
-      (cond (nat_lt k s.table.count) (cond s.shown (record_shown k (col s.table k) a) (Err (refused NoCurrentRow))) (Err (refused NoSuchColumn)))
+      (cond (nat_lt k (count_of s.table)) (cond s.shown (record_shown k (col s.table k) a) (Err (refused NoCurrentRow))) (Err (refused NoSuchColumn)))
 
 -- what a value stands for
 abbrev pub viewed : Option Value → Option Shown

@@ -1,16 +1,22 @@
-use Rattle.std.proofs.Common.{◌≡◌, ℕ, ◌+◌, ◌<◌, ◌≤◌, get_or, sym, subst, arith}
-use Rattle.layout.specs.Columns.{kept}
+use Rattle.std.proofs.Common.{◌≡◌, ℕ, ◌+◌, ◌<◌, ◌≤◌, List, get_or, sym, ap, ◌∙◌, subst, arith}
+use Rattle.layout.specs.declared.record.ColumnRecord.{ColumnRecord}
+use Rattle.layout.specs.Columns.{no_record, kept}
 use Rattle.layout.specs.Tables.{col, start}
 use Rattle.layout.proofs.Carrying.{LeftSoFar, old_inside, new_room, left_step, left_skip}
 use Rattle.layout.proofs.moves.left.Goals as goal
 use Rattle.layout.proofs.moves.left.Goals.{then-to-column, else-to-column}
 
+abbrev begins : ColumnRecord → ℕ
+begins c = c.start
+
 pub shift-requires : goal.shift-requires
 shift-requires c =
     let old = c.args.old.now in let new = c.args.new.now in let i = c.loop-i.i in
+    let at = ap (λ (z : List ColumnRecord). get_or z i no_record) c.deref.ensures.0 in
+    let to = ap (λ (z : List ColumnRecord). get_or z i no_record) c.deref-in-loop-i.ensures.0 in
     record {
-      stands = omega (arith, c.kept.ensures, old_inside old new c.requires.grown i (omega arith));
-      lands = omega (arith, c.kept.ensures, new_room old new c.requires.grown i (omega arith));
+      stands = omega (arith, c.kept.ensures, ap kept at, ap begins at, old_inside old new c.requires.grown i (omega arith));
+      lands = omega (arith, c.kept.ensures, ap kept at, ap begins to, new_room old new c.requires.grown i (omega arith));
     }
 
 pub loop-i-preserved : goal.loop-i-preserved
@@ -18,14 +24,17 @@ loop-i-preserved c =
     let old = c.args.old.now in let new = c.args.new.now in let i = c.loop-i.i in
     let a0 = c.args.arena.now in
     let a = c.loop-i.arena in
+    let at = ap (λ (z : List ColumnRecord). get_or z i no_record) c.deref.ensures.0 in
+    let to = ap (λ (z : List ColumnRecord). get_or z i no_record) c.deref-in-loop-i.ensures.0 in
+    let from_is = ap begins at in let to_is = ap begins to in
     elim c.if-to-column.branch [
       | then-to-column w ↦
-          let e = w.kept.ensures in
+          let e = w.kept.ensures ∙ ap kept at in
           let s = w.shift.ensures in
           let b = w.shift.new.arena in
-          let moved : (j : ℕ) → j < kept (col old i) → get_or b (start new i + j) 0 ≡ get_or a (start old i + j) 0 = λ j h. s.moved j (omega arith) in
+          let moved : (j : ℕ) → j < kept (col old i) → get_or b (start new i + j) 0 ≡ get_or a (start old i + j) 0 = λ j h. rw (← from_is, ← to_is) (s.moved j (omega arith)) in
           let after : (p : ℕ) → start new i + kept (col old i) ≤ p → get_or b p 0 ≡ get_or a p 0 = λ p h. s.after p (omega arith) in
-          subst (LeftSoFar old new (i + 1) a0) (sym w.arena-is) (left_step old new c.requires.grown a b i (omega arith) moved s.before after a0 w.if-to-column.true c.loop-i.invariant)
+          subst (LeftSoFar old new (i + 1) a0) (sym w.arena-is) (left_step old new c.requires.grown a b i (omega arith) moved (λ p h. s.before p (omega arith)) after a0 (omega (arith, w.if-to-column.true)) c.loop-i.invariant)
       | else-to-column w ↦
-          subst (LeftSoFar old new (i + 1) a0) (sym w.arena-is) (left_skip old new c.requires.grown a0 a i (omega arith) w.if-to-column.false c.loop-i.invariant)
+          subst (LeftSoFar old new (i + 1) a0) (sym w.arena-is) (left_skip old new c.requires.grown a0 a i (omega arith) (omega (arith, w.if-to-column.false)) c.loop-i.invariant)
     ]

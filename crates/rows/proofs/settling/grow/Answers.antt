@@ -1,5 +1,5 @@
 use Rattle.std.proofs.Common.{◌≡◌, Bool, length, subst, arith, rules}
-use Rattle.layout.specs.Tables.{binds}
+use Rattle.layout.specs.Tables.{count_of, binds}
 use Rattle.rows.specs.Settling.{WholeAs, Whole}
 use Rattle.rows.proofs.Pairs.{not_both}
 use Rattle.rows.proofs.Pairs.{front_is}
@@ -42,7 +42,7 @@ returns-then-not-bind g c = record {
       let w = c.if-not-fetch_missing.ensures.came row (half m row old a in_row none new b moved) in
       not_both c.bind.result
       (is_granted m row old a in_row none new b moved (g.H.Host.meaning c.fetch_missing.new.host) t c.fetch_missing.new.arena c.fetch_missing.ensures.places w
-      (g.H.Host.meaning c.bind.new.self) _ c.bind.result (front_is t.count c.bind_records-records.result (binds t) c.bind_records-records.ensures) c.bind.ensures.granted c.bind.ensures.after)
+      (g.H.Host.meaning c.bind.new.self) _ c.bind.result (front_is (count_of t) c.bind_records-records.result (binds t) c.bind_records-records.ensures) c.bind.ensures.granted c.bind.ensures.after)
       c.if-not-bind.true;
 }
 
@@ -57,5 +57,5 @@ returns g c = record {
       let t = c.fetch_missing.new.new in
       let w = c.if-not-fetch_missing.ensures.came row (half m row old a in_row none new b moved) in
       grew m row old a in_row none new b moved (g.H.Host.meaning c.fetch_missing.new.host) t c.fetch_missing.new.arena c.fetch_missing.ensures.places w
-      (g.H.Host.meaning c.bind.new.self) _ c.bind.result (front_is t.count c.bind_records-records.result (binds t) c.bind_records-records.ensures) c.bind.ensures.granted c.bind.ensures.after;
+      (g.H.Host.meaning c.bind.new.self) _ c.bind.result (front_is (count_of t) c.bind_records-records.result (binds t) c.bind_records-records.ensures) c.bind.ensures.granted c.bind.ensures.after;
 }

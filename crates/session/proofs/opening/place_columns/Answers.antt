@@ -3,7 +3,7 @@ use Rattle.mysql.specs.declared.fault.Fault.{Fault}
 use Rattle.mysql.specs.Faults.{host_failed}
 use Rattle.host.specs.Meanings.{Meaning}
 use Rattle.host.specs.Calls.{with_error}
-use Rattle.layout.specs.Tables.{binds, opening_size}
+use Rattle.layout.specs.Tables.{count_of, binds, opening_size}
 use Rattle.layout.proofs.Spans.{end_in_room}
 use Rattle.rows.proofs.Pairs.{front_is}
 use Rattle.session.specs.Sessions.{error_after}
@@ -18,7 +18,7 @@ returns-then-not-bind g c = λ as_many short.
     let o = c.in-Some.ensures in
     let n = length c.args.arena.now in
     let fits : opening_size c.args.pairs.now ≤ n = omega (arith, o.ends, o.same_room, end_in_room t) in
-    let same = front_is t.count c.bind_records-records.result (binds t) c.bind_records-records.ensures in
+    let same = front_is (count_of t) c.bind_records-records.result (binds t) c.bind_records-records.ensures in
     let host = refused_host m m' c.args.pairs.now n t _ c.bind.result o as_many fits same c.bind.ensures.granted c.bind.ensures.after c.if-not-bind.true in
     let due = refused_due m m' c.args.pairs.now n t _ c.bind.result o as_many fits same c.bind.ensures.granted c.bind.ensures.after c.if-not-bind.true in
     let error : m'.error ≡ 2036 = ap (λ (x : Meaning). x.error) host in
@@ -37,7 +37,7 @@ returns g c = λ as_many short.
     let o = c.in-Some.ensures in
     let n = length c.args.arena.now in
     let fits : opening_size c.args.pairs.now ≤ n = omega (arith, o.ends, o.same_room, end_in_room t) in
-    let same = front_is t.count c.bind_records-records.result (binds t) c.bind_records-records.ensures in
+    let same = front_is (count_of t) c.bind_records-records.result (binds t) c.bind_records-records.ensures in
     record {
       due = granted_due m m' c.args.pairs.now n t _ c.bind.result o as_many fits same c.bind.ensures.granted c.bind.ensures.after c.if-not-bind.false;
       table = o;

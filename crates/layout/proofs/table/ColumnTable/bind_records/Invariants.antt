@@ -1,6 +1,7 @@
-use Rattle.std.proofs.Common.{◌≡◌, map, length, take}
+use Rattle.std.proofs.Common.{◌≡◌, map, take}
 use Rattle.layout.specs.Columns.{bind_of}
 use Rattle.layout.proofs.table.ColumnTable.bind_records.Given as goal
 
-abbrev pub invariant-loop-i : goal.invariant-loop-i
-invariant-loop-i l = (length l.records ≡ 64) × (take l.i l.records ≡ map bind_of (take l.i l.self.columns))
+-- the host is told of the columns so far
+abbrev pub invariant-loop-column : goal.invariant-loop-column
+invariant-loop-column l = l.records.items ≡ map bind_of (take l.column-index l.column-items)

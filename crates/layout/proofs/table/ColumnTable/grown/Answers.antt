@@ -1,10 +1,25 @@
-use Rattle.std.proofs.Common.{◌≡◌, ℕ, false, arith}
+use Rattle.std.proofs.Common.{◌≡◌, ℕ, ◌<◌, ◌≤◌, true, false, Some, None, Option, MatchOption, arith, rules}
+use Rattle.layout.specs.declared.table.ColumnTable.{ColumnTable}
+use Rattle.layout.specs.Tables.{Grown, Relaid, need, sum_of}
 use Rattle.layout.proofs.Wanting.{need_wide}
 use Rattle.layout.proofs.table.ColumnTable.grown.Goals as goal
 
+-- a tight layout, where the wide one is too long
+tight_or_none : (t : ColumnTable) (new : Option ColumnTable) → t.room < sum_of false t
+    → MatchOption new (t.room < need t) (λ u. (need t ≤ t.room) × (Relaid true t u)) → MatchOption new (t.room < need t) (Grown t)
+tight_or_none t None long h = h
+tight_or_none t (Some u) long h = record {
+  enough = h.0;
+  tight = true;
+  laid = h.1;
+  rule_tight = λ x. long;
+  rule_wide = λ x. let z : ◌≡◌ {A = ℕ} 0 1 = cc in absurd (omega arith);
+}
+
 pub returns-in-Some : goal.returns-in-Some
 returns-in-Some c =
-    let t = c.args.self.now in let e = c.in-Some.ensures in
+    let t = c.args.self.now in
+    let e = c.in-Some.ensures false (λ x n w. search rules) in
     record {
       enough = omega (arith, e.0, need_wide t);
       tight = false;
@@ -12,3 +27,9 @@ returns-in-Some c =
       rule_tight = λ x. let z : ◌≡◌ {A = ℕ} 0 1 = cc in absurd (omega arith);
       rule_wide = λ x. e.0;
     }
+
+pub returns-in-None : goal.returns-in-None
+returns-in-None c =
+    tight_or_none c.args.self.now c.relaid-in-None.result
+    (c.in-None.ensures false (λ x n w. search rules))
+    (c.relaid-in-None.ensures true (λ x n w. search rules))

@@ -1,40 +1,31 @@
-use Rattle.std.proofs.Common.{ℕ, ◌<◌, ◌≤◌, length, sym, refl, subst, arith}
-use Rattle.std.proofs.lemmas.List.{length-set}
-use Rattle.layout.proofs.Noting.{note_lies, note_span, note_room, note_sized, note_binds, note_here, note_other}
+use Rattle.std.proofs.Common.{◌≡◌, ℕ, ◌<◌, List, ◌∷◌, map, get_or, set, refl, ap, ◌∙◌, arith, rules}
+use Rattle.std.proofs.Math.Seq.{map-set_same}
+use Rattle.host.specs.declared.records.Report.{Report}
+use Rattle.layout.specs.declared.record.ColumnRecord.{ColumnRecord}
+use Rattle.layout.specs.Columns.{no_record, bind_of, noted}
+use Rattle.layout.proofs.Binding.{same_count, same_total, same_lies, same_room, same_sized}
 use Rattle.layout.proofs.table.ColumnTable.note.Goals as goal
+
+-- a report that is noted leaves what the host is told of the columns
+same_binds : (cs : List ColumnRecord) (i : ℕ) (r : Report) (was x : ColumnRecord) → was ≡ get_or cs i no_record → x ≡ noted was r → map bind_of (set cs i x) ≡ map bind_of cs
+same_binds cs i r was x e n = map-set_same bind_of cs i x no_record (ap bind_of n ∙ ap bind_of e)
 
 pub invariant_of-self : goal.invariant_of-self
 invariant_of-self c =
-    let t = c.args.self.now in let i = c.args.i in let r = c.args.report in
-    let cs = t.columns in let s = t.small in let f = t.full in
-    let l : i < length cs = omega arith in
+    let t = c.args.self.now in let cs = t.columns.items in
+    let was : c.in-Some.column.now ≡ get_or cs c.args.i no_record = search rules in
+    let same = same_binds cs c.args.i c.args.report c.in-Some.column.now c.note.new.self was c.note.ensures in
     record {
-      small = s;
-      full = simp length-set f;
-      laid = note_lies cs i r l t.count t.laid;
-      within = subst (λ (z : ℕ). z ≤ t.room) (sym (note_span cs i r l t.count)) t.within;
-      roomy = note_room cs i r l t.count t.roomy;
-      sized = note_sized cs i r l t.count t.sized;
+      laid = same_lies cs _ same t.laid;
+      within = omega (arith, t.within, same_total cs _ same);
+      roomy = same_room cs _ same t.roomy;
+      sized = same_sized cs _ same t.sized;
       short = t.short;
     }
 
-pub returns-then-i-self : goal.returns-then-i-self
-returns-then-i-self c =
-    let t = c.args.self.now in let i = c.args.i in let r = c.args.report in
-    let cs = t.columns in let s = t.small in let f = t.full in
-    let l : i < length cs = omega arith in
-    record {
-      noted = record {
-        count = refl;
-        room = refl;
-        here = λ g. note_here cs i r l;
-        past = λ g. absurd (omega arith);
-        others = λ k e. note_other cs i r l k e;
-      };
-      places = record {
-        count = refl;
-        room = refl;
-        binds_same = note_binds cs i r l t.count;
-        end_same = note_span cs i r l t.count;
-      };
-    }
+pub returns-in-Some-clause-places : goal.returns-in-Some-clause-places
+returns-in-Some-clause-places c =
+    let cs = c.args.self.now.columns.items in
+    let was : c.in-Some.column.now ≡ get_or cs c.args.i no_record = search rules in
+    let same = same_binds cs c.args.i c.args.report c.in-Some.column.now c.note.new.self was c.note.ensures in
+    record { count = same_count cs _ same; room = refl; binds_same = same; end_same = same_total cs _ same }

@@ -1,37 +1,61 @@
-use Rattle.std.proofs.Common.{◌≡◌, ℕ, ◌+◌, ◌<◌, ◌≤◌, length, get_or, sym, ap, ◌∙◌, subst, arith}
-use Rattle.std.proofs.lemmas.List.{length-set}
-use Rattle.mysql.specs.Types.{size_of}
-use Rattle.layout.specs.declared.record.ColumnRecord.{ColumnRecord}
-use Rattle.layout.specs.Columns.{no_record, moved, wanted, bytes_by}
-use Rattle.layout.proofs.Adding.{sum_more, sum_first}
-use Rattle.layout.proofs.Putting.{each_put, lies_put, span_put_next}
-use Rattle.layout.proofs.Wanting.{wanted_some, wanted_sized}
+use Rattle.std.proofs.Common.{◌≡◌, ℕ, ◌+◌, ◌<◌, ◌≤◌, Bool, get_or, sym, ap, length, ◌∙◌, subst, arith}
+use Rattle.std.proofs.lemmas.List.Sums.{sum_by_more, sum_by_more_le}
+use Rattle.std.proofs.lemmas.List.{take_all}
+use Rattle.layout.specs.Columns.{no_record, moved, wanted, sum}
+use Rattle.layout.specs.Tables.{count_of, col, end}
+use Rattle.layout.proofs.Wanting.{gets, gets_some, gets_sized, gets_moved}
+use Rattle.layout.proofs.Putting.{added_count, added_each}
 use Rattle.layout.proofs.table.ColumnTable.relaid.Goals as goal
 
-pub returns-then-capacity-self : goal.returns-then-capacity-self
-returns-then-capacity-self c =
-    let t = c.args.self.now in let i = c.loop-i.i in let tight = c.args.tight in
-    let s = t.small in let f = t.full in
-    omega (arith, c.loop-i.invariant.2, c.wanted-capacity.ensures, sum_more tight t.columns i (omega arith), sum_first tight t.columns (i + 1) t.count (omega arith))
+pub push-requires-clause-some : goal.push-requires-clause-some
+push-requires-clause-some g c =
+    let w = c.requires.layout.1 _ _ (record { shown = _; shows = λ j. get_or c.deref-column-items.result.now c.loop-column.column-index no_record; says = record { met = c.capacity.ensures } }) in
+    let d = c.deref-column-items.ensures in
+    gets_some c.args.self.now c.deref-column-items.result.now d.0 c.loop-column.column-index (omega (arith, ap length d.0)) c.requires.layout.0 c.capacity.result w
 
-pub loop-i-preserved : goal.loop-i-preserved
-loop-i-preserved c =
-    let t = c.args.self.now in let i = c.loop-i.i in let tight = c.args.tight in
-    let cs = c.loop-i.columns in let at = c.loop-i.at in let inv = c.loop-i.invariant in
-    let s = t.small in let f = t.full in
-    let o = get_or t.columns i no_record in
-    let n = c.wanted-capacity.result in
-    let e : n ≡ wanted tight o = c.wanted-capacity.ensures in
-    let x : ColumnRecord = moved o at n in
-    let l : i < length cs = omega (arith, inv.0) in
-    let lo : i < t.count = omega arith in (
-      simp length-set inv.0,
-      omega arith,
-      omega (arith, inv.2, e, sum_more tight t.columns i (omega arith)),
-      ap (λ (z : ℕ). z + n) inv.3 ∙ sym (span_put_next cs i x l),
-      lies_put cs i x l inv.3 inv.4,
-      each_put cs i x l (λ k z. 1 ≤ z.capacity) (subst (λ (z : ℕ). 1 ≤ z) (sym e) (wanted_some tight o (t.sized i lo) (t.roomy i lo))) inv.5,
-      each_put cs i x l (λ k z. bytes_by (size_of z.code) z.capacity ≡ z.capacity)
-          (subst (λ (z : ℕ). bytes_by (size_of o.code) z ≡ z) (sym e) (wanted_sized tight o (t.sized i lo))) inv.6,
-      each_put cs i x l (λ k z. z ≡ moved (get_or t.columns k no_record) z.start (wanted tight (get_or t.columns k no_record))) (ap (moved o at) e) inv.7,
+pub push-requires-clause-sized : goal.push-requires-clause-sized
+push-requires-clause-sized g c =
+    let w = c.requires.layout.1 _ _ (record { shown = _; shows = λ j. get_or c.deref-column-items.result.now c.loop-column.column-index no_record; says = record { met = c.capacity.ensures } }) in
+    let d = c.deref-column-items.ensures in
+    gets_sized c.args.self.now c.deref-column-items.result.now d.0 c.loop-column.column-index (omega (arith, ap length d.0)) c.requires.layout.0 c.capacity.result w
+
+pub returns-in_err-push : goal.returns-in_err-push
+returns-in_err-push g c = λ tight h.
+    let s = c.args.self.now in let i = c.loop-column.column-index in
+    let xs = c.deref-column-items.result.now in let n = c.capacity.result in
+    let inv = c.loop-column.invariant in
+    let e = c.deref-column-items.ensures.0 in
+    let l : i < count_of s = omega (arith, ap length e) in
+    let w = h _ _ (record { shown = _; shows = λ j. get_or c.deref-column-items.result.now c.loop-column.column-index no_record; says = record { met = c.capacity.ensures } }) in
+    rw c.from_residual.ensures
+    (omega (arith, c.in_err-push.ensures, inv.room, (inv.laid tight h).0, gets s xs e i l tight n w, sum_by_more_le (wanted tight) s.columns.items i no_record l))
+
+pub loop-column-preserved : goal.loop-column-preserved
+loop-column-preserved g c =
+    let s = c.args.self.now in let t = c.loop-column.table in let v = c.push.new.self in let i = c.loop-column.column-index in
+    let inv = c.loop-column.invariant in let a = c.in_ok-push.ensures in
+    let xs = c.deref-column-items.result.now in let n = c.capacity.result in
+    let l : i < count_of s = omega (arith, ap length c.deref-column-items.ensures.0) in
+    record {
+      room = a.room ∙ inv.room;
+      as_many = omega (arith, added_count _ t v a, inv.as_many);
+      laid = λ tight h.
+          let w = h _ _ (record { shown = _; shows = λ j. get_or c.deref-column-items.result.now c.loop-column.column-index no_record; says = record { met = c.capacity.ensures } }) in
+          let e = c.deref-column-items.ensures.0 in (
+            omega (arith, a.ends, (inv.laid tight h).0, gets s xs e i l tight n w, sum_by_more (wanted tight) s.columns.items i no_record l),
+            λ k m. added_each _ t v a (λ k z. z ≡ moved (col s k) z.start (wanted tight (col s k)))
+                (subst (λ (k : ℕ). moved (get_or xs i no_record) (end t) n ≡ moved (col s k) (end t) (wanted tight (col s k))) (sym inv.as_many) (gets_moved s xs e i l tight n w (end t)))
+                (λ k o. (inv.laid tight h).1 k (omega (arith, inv.as_many)))
+                k (omega (arith, inv.as_many)),
+          );
+    }
+
+pub returns : goal.returns
+returns g c = λ tight h.
+    let s = c.args.self.now in let t = c.loop-column.table in
+    let inv = c.loop-column.invariant in let within = t.within in
+    let e = c.deref-column-items.ensures.0 in
+    let ends : end t ≡ sum tight s.columns.items = (inv.laid tight h).0 ∙ ap (sum tight) (take_all c.loop-column.column-index s.columns.items (omega (arith, ap length e))) in (
+      omega (arith, ends, inv.room),
+      record { count = omega (arith, inv.as_many, ap length e); room = inv.room; each = λ k l. (inv.laid tight h).1 k (omega (arith, ap length e)) },
     )

@@ -1,14 +1,16 @@
-use Rattle.std.proofs.Common.{◌≡◌, ℕ, ◌<◌, ◌≤◌, length, get_or, take}
-use Rattle.layout.specs.Columns.{sum, span, no_record, moved, wanted, Lies, SomeRoom, Sized}
+use Rattle.std.proofs.Common.{◌≡◌, ℕ, ◌<◌, Bool, get_or, take}
+use Rattle.std.specs.Fn.{FnReturnsAt}
+use Rattle.layout.specs.declared.record.ColumnRecord.{ColumnRecord}
+use Rattle.layout.specs.Columns.{moved, wanted, sum}
+use Rattle.layout.specs.Tables.{count_of, col, start, end}
 use Rattle.layout.proofs.table.ColumnTable.relaid.Given as goal
 
-abbrev pub invariant-loop-i : goal.invariant-loop-i
-invariant-loop-i l =
-    (length l.columns ≡ 64)
-    × (l.at ≤ l.self.room)
-    × (l.at ≡ sum l.tight (take l.i l.self.columns))
-    × (l.at ≡ span l.i l.columns)
-    × (Lies l.i l.columns)
-    × (SomeRoom l.i l.columns)
-    × (Sized l.i l.columns)
-    × ((k : ℕ) → k < l.i → get_or l.columns k no_record ≡ moved (get_or l.self.columns k no_record) (get_or l.columns k no_record).start (wanted l.tight (get_or l.self.columns k no_record)))
+-- the columns so far have their new places
+abbrev pub invariant-loop-column : goal.invariant-loop-column
+invariant-loop-column g l = record {
+  room : l.table.room ≡ l.self.room;
+  as_many : count_of l.table ≡ l.column-index;
+  laid : (tight : Bool) → ((c : ColumnRecord) (n : ℕ) → FnReturnsAt g.F.Fn l.capacity c n → n ≡ wanted tight c)
+      → (end l.table ≡ sum tight (take l.column-index l.self.columns.items))
+      × ((k : ℕ) → k < l.column-index → col l.table k ≡ moved (col l.self k) (start l.table k) (wanted tight (col l.self k)))
+}
