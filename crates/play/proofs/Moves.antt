@@ -1,14 +1,15 @@
 -- A call of a session is a step of the ideal session that it stands for.
-use Rattle.std.proofs.Common.{◌≡◌, ℕ, Bool, true, false, cond, ◌&&◌, eqb, List, [], ◌∷◌, length, is_some as option_is_some, Some, None, Ok, Err, Option, Result, sym, refl, ap, ◌∙◌}
+use Rattle.std.proofs.Common.{◌≡◌, ℕ, Bool, true, false, cond, ◌&&◌, eqb, nat_lt, List, [], ◌∷◌, length, is_some as option_is_some, Some, None, Ok, Err, Option, Result, MatchResult, sym, refl, ap, ◌∙◌}
 use Rattle.std.proofs.lemmas.Bool.{eq-eqb}
 use Rattle.mysql.specs.declared.backend.MysqlType.{MysqlType}
 use Rattle.mysql.specs.declared.bind.Column.{Column}
 use Rattle.mysql.specs.declared.fault.Fault.{Fault}
-use Rattle.mysql.specs.declared.fault.Refusal.TheVariants.{Unopened, ArenaLength}
+use Rattle.mysql.specs.declared.fault.Refusal.TheVariants.{Unopened, ArenaLength, NoSuchColumn, NoCurrentRow}
 use Rattle.mysql.specs.Faults.{refused}
 use Rattle.host.specs.Meanings.{Row, Event, Meaning}
 use Rattle.host.specs.Meanings as event
 use Rattle.layout.specs.declared.table.ColumnTable.{ColumnTable}
+use Rattle.layout.specs.Tables.{col}
 use Rattle.rows.specs.declared.answers.Fetch.{Fetch}
 use Rattle.rows.specs.declared.answers.Fetch.TheVariants as fetch_answer
 use Rattle.session.specs.declared.answers.Slip.{Slip}
@@ -16,11 +17,11 @@ use Rattle.session.specs.declared.state.Session.{Session}
 use Rattle.rows.specs.Dues as dues
 use Rattle.session.specs.Sessions as session
 use Rattle.rows.specs.Standing.{pairs_of}
-use Rattle.session.specs.Sessions.{shown_row, Sound, Holds, passes, past_checks, Opened, NotOpened, AfterOpening, AfterFetch, NotFetched}
+use Rattle.session.specs.Sessions.{shown_row, Sound, Holds, passes, past_checks, record_shown, Opened, NotOpened, AfterOpening, AfterFetch, NotFetched}
 use Rattle.play.specs.declared.calls.Answer.{Answer}
 use Rattle.play.specs.declared.calls.Answer.TheVariants as answers
 use Rattle.play.specs.Histories.{opening, fetch}
-use Rattle.play.specs.Rules.{opening_said, fetch_said, fetch_due}
+use Rattle.play.specs.Rules.{opening_said, fetch_said, fetch_due, read_due}
 use Rattle.play.specs.Machine.{State, opening_at, rest_of, shown_if, fetch_at}
 use Rattle.play.specs.Calls.{said_of, fetch_answered}
 use Rattle.play.specs.Moves.{ideal_of, Ready, Moved}
@@ -120,6 +121,11 @@ module _ {H : Type 0} (m m' : Meaning) (s s' : Session H) (a a' : List ℕ) wher
 
 -- fetches
 
+-- an answer that holds what a fetch came to, or the fault
+pub fetched_answer : (r : Result Fetch Fault) (a : Answer) → MatchResult r (λ x. a ≡ fetch_answered (Ok x)) (λ f. a ≡ answers.Refused f) → a ≡ fetch_answered r
+fetched_answer (Ok x) a e = e
+fetched_answer (Err f) a e = e
+
 fetch_says : (r : Result Fetch Fault) → said_of (fetch_answered r) ≡ fetch_said r
 fetch_says (Ok fetch_answer.Row) = refl
 fetch_says (Ok fetch_answer.End) = refl
@@ -206,3 +212,22 @@ module _ {H : Type 0} (m m' : Meaning) (s s' : Session H) (a a' : List ℕ) (lon
         to = f.1;
         ready = record { room = f.2; sound = sound; holds = holds };
       }
+
+-- readings
+
+module _ {H X : Type 0} (m : Meaning) (s : Session H) (a : List ℕ) (k : ℕ) (ready : Ready m s a) (reads : MysqlType → List ℕ → Result X Fault) (r : Result X Fault)
+    (exact : r ≡ dues.read_as reads k (session.reading s a k))
+    (by_row : Sound m s → Holds m s a → passes s a ≡ true → r ≡ dues.read_as reads k (dues.read (pairs_of s.table) (shown_row m s) k)) where
+  abbrev due : Bool → Result X Fault
+  due b = dues.read_as reads k (read_due (cond b (Some (pairs_of s.table)) None) (shown_row m s) k)
+
+  read_by : (b : Bool) → s.opened ≡ b → r ≡ due b
+  read_by true o = by_row ready.sound ready.holds (passed m s a ready o)
+  read_by false o =
+      exact
+      ∙ ap (dues.read_as reads k)
+      (unopened s (length a) (cond (nat_lt k s.table.count) (cond s.shown (record_shown k (col s.table k) a) (Err (refused NoCurrentRow))) (Err (refused NoSuchColumn))) o)
+
+  -- from what a typed reading ensures
+  pub read_is : r ≡ dues.read_as reads k (read_due (ideal_of m s a).bound (ideal_of m s a).shown k)
+  read_is = read_by s.opened refl

@@ -5,7 +5,6 @@ use Rattle.std.proofs.lemmas.List.{take_more, take_all, length_push, length-take
 use Rattle.mysql.specs.declared.bind.Column.{Column}
 use Rattle.mysql.specs.declared.fault.Fault.{Fault}
 use Rattle.host.specs.Meanings.{Meaning}
-use Rattle.session.specs.declared.state.Session.{Session}
 use Rattle.rows.specs.Dues as dues
 use Rattle.play.specs.declared.calls.Call.{Call}
 use Rattle.play.specs.declared.calls.Answer.{Answer}
@@ -13,8 +12,9 @@ use Rattle.play.specs.Histories.{Asked, opening, fetch, reading, integer, big_in
 use Rattle.play.specs.declared.calls.PlayError.{PlayError}
 use Rattle.play.specs.Machine.{State, start, opening_at, fetch_at, answer, after, Ideal}
 use Rattle.play.specs.Calls.{asked_of, said_of, history}
-use Rattle.play.specs.Moves.{ideal_of, Ready, Moved, MovedIf}
-use Rattle.play.specs.Plays.{KeptIf, AllIdeal, IdealTo, LawfulTo, AlikeTo}
+use Rattle.play.specs.declared.steps.Player.{Player}
+use Rattle.play.specs.Players.{ideal, Playable, AnswersIf, Answers}
+use Rattle.play.specs.Plays.{Kept, AllIdeal, IdealTo, LawfulTo, AlikeTo}
 use Rattle.play.proofs.Runs.{run}
 use Rattle.play.proofs.Lawful.{lawful}
 use Rattle.play.proofs.Alikes.{alike}
@@ -60,61 +60,63 @@ run_keeps x (e ∷ es) =
     let s = after_keeps x e.asked in
     (r.0 ∙ s.0, r.1 ∙ s.1)
 
--- The first i calls are answered as the ideal session x answers them, and the session stands for what x is after them.
-pub record Along {H : Type 0} (x : State) (calls : List Call) (i : ℕ) (answers : List Answer) (m : Meaning) (s : Session H) (a : List ℕ) : Type 0 where
+-- The first i calls are answered as the ideal session x answers them, and the player stands for what x is after them.
+pub record Along {H : Type 0} (means : H → Meaning) (x : State) (calls : List Call) (i : ℕ) (answers : List Answer) (p : Player H) : Type 0 where
   pub as_many : length answers ≡ i
-  pub ready : Ready m s a
-  pub stands : ideal_of m s a ≡ run x (history (take i calls) answers)
-  pub ideal : Ideal x (history (take i calls) answers)
+  pub playable : Playable means p
+  pub stands : ideal means p ≡ run x (history (take i calls) answers)
+  pub ideally : Ideal x (history (take i calls) answers)
 
-module _ {H : Type 0} (x : State) (calls : List Call) (i : ℕ) (l : i < length calls) (d : Call) (xs ys : List Answer) (m m' : Meaning) (s s' : Session H) (a a' : List ℕ) (so_far : Along x calls i xs m s a) where
-  abbrev call : Call
-  call = get_or calls i d
+module _ {H : Type 0} (means : H → Meaning) (x : State) (calls : List Call) where
+  -- no call is answered yet
+  pub along_none : (xs : List Answer) (p : Player H) → xs ≡ [] → Playable means p → Along means (ideal means p) calls 0 xs p
+  along_none xs p e playable = record { as_many = ap length e; playable = playable; stands = refl; ideally = tt }
 
-  abbrev before : List Entry
-  before = history (take i calls) xs
-
-  one_more : (r : Answer) → ys ≡ xs ++ r ∷ [] → Moved (ideal_of m s a) (asked_of call) r m' s' a' → Along x calls (i + 1) ys m' s' a'
-  one_more r e w =
+  -- one more
+  pub along_more : (i : ℕ) → i < length calls → (d : Call) (xs ys : List Answer) (p p' : Player H) (r : Answer) → ys ≡ xs ++ r ∷ [] → Answers means (asked_of (get_or calls i d)) r p p'
+      → Along means x calls i xs p → Along means x calls (i + 1) ys p'
+  along_more i l d xs ys p p' r e w so_far =
+      let call : Call = get_or calls i d in
+      let before : List Entry = history (take i calls) xs in
       let entry : Entry = record { asked = asked_of call; said = said_of r } in
       let long : length xs ≡ length (take i calls) = so_far.as_many ∙ sym (length-take-le i calls (omega arith)) in
       let grown : history (take (i + 1) calls) ys ≡ before ++ entry ∷ [] =
       ap (λ (cs : List Call). history cs ys) (take_more calls i d l) ∙ ap (history (take i calls ++ call ∷ [])) e ∙ history_more (take i calls) xs call r long in
-      let says : said_of r ≡ answer (run x before) (asked_of call) = w.says ∙ ap (λ (y : State). answer y (asked_of call)) so_far.stands in
+      let says : said_of r ≡ answer (run x before) (asked_of call) = w.moved.says ∙ ap (λ (y : State). answer y (asked_of call)) so_far.stands in
       record {
         as_many = ap length e ∙ length_push xs r ∙ ap (λ (n : ℕ). n + 1) so_far.as_many;
-        ready = w.ready;
-        stands = w.to ∙ ap (λ (y : State). after y (asked_of call)) so_far.stands ∙ sym (run_more x before entry) ∙ sym (ap (run x) grown);
-        ideal = subst (Ideal x) (sym grown) (ideal_more x before entry so_far.ideal says);
+        playable = record { tied = w.tied; ready = w.moved.ready };
+        stands = w.moved.to ∙ ap (λ (y : State). after y (asked_of call)) so_far.stands ∙ sym (run_more x before entry) ∙ sym (ap (run x) grown);
+        ideally = subst (Ideal x) (sym grown) (ideal_more x before entry so_far.ideally says);
       }
 
-  pub along_more : (r : Result Answer PlayError) (u : Unit {0}) → KeptIf r (Ok u) xs ys → MovedIf (ideal_of m s a) (asked_of call) r m' s' a' → Along x calls (i + 1) ys m' s' a'
-  along_more (Ok r) u k w = one_more r k w
-  along_more (Err e) u k w = absurd k
-
--- no call is answered yet
-pub along_none : {H : Type 0} (calls : List Call) (xs : List Answer) (m : Meaning) (s : Session H) (a : List ℕ) → xs ≡ [] → Ready m s a → Along (ideal_of m s a) calls 0 xs m s a
-along_none calls xs m s a e ready = record { as_many = ap length e; ready = ready; stands = refl; ideal = tt }
-
--- the host's columns and their codes, while calls are made
-module _ {H : Type 0} (x : State) (m : Meaning) (s : Session H) (a : List ℕ) where
-  pub kept_along : (calls : List Call) (i : ℕ) (xs : List Answer) → Along x calls i xs m s a → (m.columns ≡ x.columns) × (m.carries ≡ x.carries)
-  kept_along calls i xs so_far =
-      let k = run_keeps x (history (take i calls) xs) in
-      (ap (λ (y : State). y.columns) so_far.stands ∙ k.0, ap (λ (y : State). y.carries) so_far.stands ∙ k.1)
-
-  pub kept_moved : (m' : Meaning) (s' : Session H) (a' : List ℕ) (asked : Asked) (r : Result Answer PlayError) → MovedIf (ideal_of m s a) asked r m' s' a' → (m'.columns ≡ m.columns) × (m'.carries ≡ m.carries)
-  kept_moved m' s' a' asked (Ok r) w =
-      let k = after_keeps (ideal_of m s a) asked in
-      (ap (λ (y : State). y.columns) w.to ∙ k.0, ap (λ (y : State). y.carries) w.to ∙ k.1)
-  kept_moved m' s' a' asked (Err e) w = (ap (λ (y : State). y.columns) w.same, ap (λ (y : State). y.carries) w.same)
-
-  -- and when all are
-  pub all_along : (calls : List Call) (i : ℕ) (xs : List Answer) → length calls ≤ i → i ≤ length calls → Along x calls i xs m s a → AllIdeal x calls xs
-  all_along calls i xs l g so_far =
+  -- all
+  pub all_along : (i : ℕ) (xs : List Answer) (p : Player H) → length calls ≤ i → i ≤ length calls → Along means x calls i xs p → AllIdeal x calls xs
+  all_along i xs p l g so_far =
       record {
         as_many = so_far.as_many ∙ omega arith;
-        ideal = subst (λ (cs : List Call). Ideal x (history cs xs)) (take_all i calls l) so_far.ideal;
+        ideal = subst (λ (cs : List Call). Ideal x (history cs xs)) (take_all i calls l) so_far.ideally;
+      }
+
+-- the host's columns and their codes, while calls are made
+module _ {H : Type 0} (means : H → Meaning) (p : Player H) where
+  pub kept_along : (p₀ : Player H) (calls : List Call) (i : ℕ) (xs : List Answer) → Along means (ideal means p₀) calls i xs p → Kept (means p₀.session.host) (means p.session.host)
+  kept_along p₀ calls i xs so_far =
+      let x = ideal means p₀ in
+      let k = run_keeps x (history (take i calls) xs) in
+      record { columns = ap (λ (y : State). y.columns) so_far.stands ∙ k.0; carries = ap (λ (y : State). y.carries) so_far.stands ∙ k.1 }
+
+  pub kept_more : (m : Meaning) (p' : Player H) (asked : Asked) (r : Result Answer PlayError) → Kept m (means p.session.host) → AnswersIf means asked r p p' → Kept m (means p'.session.host)
+  kept_more m p' asked (Ok r) so_far w =
+      let k = after_keeps (ideal means p) asked in
+      record {
+        columns = ap (λ (y : State). y.columns) w.moved.to ∙ k.0 ∙ so_far.columns;
+        carries = ap (λ (y : State). y.carries) w.moved.to ∙ k.1 ∙ so_far.carries;
+      }
+  kept_more m p' asked (Err e) so_far w =
+      record {
+        columns = ap (λ (y : State). y.columns) w.moved.same ∙ so_far.columns;
+        carries = ap (λ (y : State). y.carries) w.moved.same ∙ so_far.carries;
       }
 
 -- what is answered as the ideal session answers it is lawful, and alike

@@ -4,4 +4,5 @@ pub mod Law
 pub mod Machine
 pub mod Calls
 pub mod Moves
+pub mod Players
 pub mod Plays

@@ -1,5 +1,5 @@
 -- What playing a list of calls, or two, comes to.
-use Rattle.std.specs.Prelude.{◌≡◌, ℕ, List, [], ◌∷◌, ◌++◌, length, Ok, Err, vec_items, Result, Vec}
+use Rattle.std.specs.Prelude.{◌≡◌, ℕ, List, length, Ok, Err, vec_items, Result, Vec}
 use Rattle.std.specs.declared.alloc.Global.{Global}
 use Rattle.host.specs.Meanings.{Meaning}
 use Rattle.play.specs.declared.calls.Call.{Call}
@@ -13,13 +13,6 @@ use Rattle.play.specs.Calls.{history}
 pub record Kept (m m' : Meaning) : Type 0 where
   pub columns : m'.columns ≡ m.columns
   pub carries : m'.carries ≡ m.carries
-
--- an answer is kept after the others; there is none to keep where memory ran out, and it may run out here
-abbrev pub KeptIf : Result Answer PlayError → Result (Unit {0}) PlayError → (before after : List Answer) → Type 0
-KeptIf (Ok a) (Ok u) before after = after ≡ before ++ a ∷ []
-KeptIf (Ok a) (Err e) before after = Unit {0}
-KeptIf (Err d) (Ok u) before after = ⊥
-KeptIf (Err d) (Err e) before after = Unit {0}
 
 -- every call has its answer, as the ideal session x gives it
 pub record AllIdeal (x : State) (calls : List Call) (answers : List Answer) : Type 0 where

@@ -1,62 +1,27 @@
 // Whole lists of calls.
-ghost use Rattle.std.specs.Prelude.{◌≡◌, false, length};
+ghost use Rattle.std.specs.Prelude.{◌≡◌, length};
 ghost use Rattle.host.specs.Calls.{freed};
 ghost use Rattle.play.specs.Machine.{start};
-ghost use Rattle.play.specs.Moves.{ideal_of, Ready};
-ghost use Rattle.play.specs.Plays.{Kept, KeptIf, IdealTo, LawfulTo, AlikeTo};
+ghost use Rattle.play.specs.Players.{ideal, Playable};
+ghost use Rattle.play.specs.Plays.{Kept, IdealTo, LawfulTo, AlikeTo};
 
 use crate::calls::{Answer, Call, PlayError};
-use crate::steps::{Left, step};
+use crate::steps::Player;
 use host::Host;
-use session::{Session, Slip};
 use std::alloc::Global;
 
-// Keeps an answer with the others, unless memory ran out.
-fn keep(answers: &mut Vec<Answer>, answer: Result<Answer, PlayError>) -> Result<(), PlayError>
-    ensures { KeptIf answer result answers.old.items answers.new.items }
-{
-    match answers.push(answer?) {
-        Ok(()) => Ok(()),
-        Err(_) => Err(PlayError::OutOfMemory),
-    }
-}
-
-// The slip of the opening that was granted, and an answer for each call.
-struct Ended {
-    slip: Option<Slip>,
-    answers: Result<Vec<Answer>, PlayError>,
-}
-
-// Makes all calls of a session that is not opened yet.
-fn answer_all<H: Host>(
-    heap: Global,
-    session: &mut Session<H>,
-    arena: &mut [u8],
-    calls: &[Call],
-) -> Ended
-    requires unopened { session.old.opened ≡ false }
-    requires ready { Ready (H.Host.meaning session.old.host) session.old arena.old }
-    ensures host { Kept (H.Host.meaning session.old.host) (H.Host.meaning session.new.host) }
-    ensures answers { IdealTo (ideal_of (H.Host.meaning session.old.host) session.old arena.old) calls.now result.answers }
-{
-    let mut slip: Option<Slip> = None;
-    let mut answers = Vec::new(heap);
-    for call in calls {
-        let Left { slip: kept, answer } = step(heap, session, slip, arena, *call);
-        slip = kept;
-        match keep(&mut answers, answer) {
-            Ok(()) => {}
-            Err(e) => {
-                return Ended {
-                    slip,
-                    answers: Err(e),
-                };
-            }
+impl<'a, H: Host> Player<'a, H> {
+    // Makes all calls, and keeps their answers.
+    fn answer_all(&mut self, calls: &[Call]) -> Result<Vec<Answer>, PlayError>
+        requires { Playable H.Host.meaning self.old }
+        ensures host { Kept (H.Host.meaning self.old.session.host) (H.Host.meaning self.new.session.host) }
+        ensures answers { IdealTo (ideal H.Host.meaning self.old) calls.now result }
+    {
+        let mut answers = Vec::new(self.heap);
+        for call in calls {
+            answers.push(self.answer(*call)?)?;
         }
-    }
-    Ended {
-        slip,
-        answers: Ok(answers),
+        Ok(answers)
     }
 }
 
@@ -71,10 +36,12 @@ fn play_through<H: Host>(heap: Global, host: H, arena: &mut [u8], calls: &[Call]
     ensures host { H.Host.meaning result.host ≡ freed (H.Host.meaning host) }
     ensures answers { IdealTo (start (H.Host.meaning host) (length arena.old)) calls.now result.answers }
 {
-    let mut session = Session::new(host);
-    let Ended { slip, answers } = answer_all(heap, &mut session, arena, calls);
-    let host = session.close(slip);
-    Played { host, answers }
+    let mut player = Player::new(heap, host, arena);
+    let answers = player.answer_all(calls);
+    Played {
+        host: player.close(),
+        answers,
+    }
 }
 
 // Plays calls over a new session: it has the host, which is handed back freed, and one arena.

@@ -1,145 +1,118 @@
-// One call, over a session and the slip of its opening.
-ghost use Rattle.std.specs.Prelude.{◌≡◌, is_some};
-ghost use Rattle.play.specs.Histories.{opening as asks_opening, fetch as asks_fetch, reading, integer, big_integer, time};
-ghost use Rattle.play.specs.Machine.{answer as ideal_answer};
-ghost use Rattle.play.specs.Calls.{asked_of, said_of, fetch_answered};
-ghost use Rattle.play.specs.Moves.{ideal_of, Ready, Moved, MovedIf, SaidIf};
+// A session that is played call by call.
+ghost use Rattle.std.specs.Prelude.{◌≡◌, length};
+ghost use Rattle.host.specs.Calls.{freed};
+ghost use Rattle.play.specs.Histories.{opening, fetch as fetching, reading};
+ghost use Rattle.play.specs.Machine.{start};
+ghost use Rattle.play.specs.Calls.{asked_of};
+ghost use Rattle.play.specs.Moves.{SaidIf};
+ghost use Rattle.play.specs.Players.{ideal, Playable, Answers, AnswersIf, ReadsAs};
 
 use crate::calls::{Answer, Call, PlayError};
 use host::Host;
-use mysql::{Fault, MysqlType};
-use readings::MysqlTime;
-use rows::Fetch;
+use mysql::MysqlType;
+use readings::FromSql;
 use session::{Session, Slip};
 use std::alloc::Global;
 
-// What a call leaves: the slip of the opening that was granted, and an answer.
-pub struct Left {
-    pub slip: Option<Slip>,
-    pub answer: Result<Answer, PlayError>,
+// A session, the slip of its opening once one was granted, and the one arena that its calls are made over. What each call asks of
+// them, `Playable`, is a `requires` and not a ghost field: such a field takes a fact that has one proof at most, and this one may have more.
+pub(crate) struct Player<'a, H> {
+    pub(crate) heap: Global,
+    pub(crate) session: Session<H>,
+    pub(crate) slip: Option<Slip>,
+    pub(crate) arena: &'a mut [u8],
 }
 
-// An opening; a slip is kept.
-fn open_step<H: Host>(
-    session: &mut Session<H>,
-    slip: Option<Slip>,
-    arena: &mut [u8],
-    wanted: &[Option<MysqlType>],
-) -> Left
-    requires slip { is_some slip ≡ session.old.opened }
-    requires ready { Ready (H.Host.meaning session.old.host) session.old arena.old }
-    ensures slip { is_some result.slip ≡ session.new.opened }
-    ensures moved { MovedIf (ideal_of (H.Host.meaning session.old.host) session.old arena.old) (asks_opening wanted.now) result.answer (H.Host.meaning session.new.host) session.new arena.new }
-{
-    match session.open(arena, wanted) {
-        Ok(granted) => match slip {
-            None => Left {
-                slip: Some(granted),
-                answer: Ok(Answer::Opened),
-            },
-            Some(_) => unreachable(),
-        },
-        Err(fault) => Left {
-            slip,
-            answer: Ok(Answer::Refused(fault)),
-        },
-    }
-}
-
-// What a fetch came to, as an answer.
-fn fetch_answer(fetched: Result<Fetch, Fault>) -> Answer
-    ensures { result ≡ fetch_answered fetched }
-{
-    match fetched {
-        Ok(Fetch::Row) => Answer::Row,
-        Ok(Fetch::End) => Answer::End,
-        Err(fault) => Answer::Refused(fault),
-    }
-}
-
-// A fetch.
-fn fetch_step<H: Host>(session: &mut Session<H>, arena: &mut [u8]) -> Answer
-    requires ready { Ready (H.Host.meaning session.old.host) session.old arena.old }
-    ensures opened { session.new.opened ≡ session.old.opened }
-    ensures moved { Moved (ideal_of (H.Host.meaning session.old.host) session.old arena.old) asks_fetch result (H.Host.meaning session.new.host) session.new arena.new }
-{
-    fetch_answer(session.fetch(arena))
-}
-
-// A raw reading; the bytes are copied.
-fn read_step<H: Host>(
-    heap: Global,
-    session: &Session<H>,
-    arena: &[u8],
-    column: usize,
-) -> Result<Answer, PlayError>
-    requires ready { Ready (H.Host.meaning session.now.host) session.now arena.now }
-    ensures { SaidIf (ideal_of (H.Host.meaning session.now.host) session.now arena.now) (reading column) result }
-{
-    match session.read(arena, column) {
-        Ok(Some(shown)) => {
-            let value = shown.value();
-            match value.as_bytes().to_vec(heap) {
-                Ok(bytes) => Ok(Answer::Bytes(value.value_type(), bytes)),
-                Err(_) => Err(PlayError::OutOfMemory),
-            }
+impl<'a, H: Host> Player<'a, H> {
+    // A player of a new session.
+    pub(crate) fn new(heap: Global, host: H, arena: &'a mut [u8]) -> Player<'a, H>
+        ensures playable { Playable H.Host.meaning result }
+        ensures ideal { ideal H.Host.meaning result ≡ start (H.Host.meaning host) (length arena.old) }
+    {
+        Player {
+            heap,
+            session: Session::new(host),
+            slip: None,
+            arena,
         }
-        Ok(None) => Ok(Answer::Null),
-        Err(fault) => Ok(Answer::Refused(fault)),
     }
-}
 
-// Typed readings.
-fn integer_step<H: Host>(session: &Session<H>, arena: &[u8], column: usize) -> Answer
-    requires ready { Ready (H.Host.meaning session.now.host) session.now arena.now }
-    ensures { said_of result ≡ ideal_answer (ideal_of (H.Host.meaning session.now.host) session.now arena.now) (integer column) }
-{
-    match session.read_as::<i32>(arena, column) {
-        Ok(n) => Answer::Integer(n),
-        Err(fault) => Answer::Refused(fault),
+    // An opening; its slip is kept.
+    fn open(&mut self, wanted: &[Option<MysqlType>]) -> Answer
+        requires { Playable H.Host.meaning self.old }
+        ensures { Answers H.Host.meaning (opening wanted.now) result self.old self.new }
+    {
+        match self.session.open(self.arena, wanted) {
+            Ok(slip) => match self.slip.replace(slip) {
+                None => Answer::Opened,
+                Some(_) => unreachable!(),
+            },
+            Err(fault) => Answer::Refused(fault),
+        }
     }
-}
 
-fn big_integer_step<H: Host>(session: &Session<H>, arena: &[u8], column: usize) -> Answer
-    requires ready { Ready (H.Host.meaning session.now.host) session.now arena.now }
-    ensures { said_of result ≡ ideal_answer (ideal_of (H.Host.meaning session.now.host) session.now arena.now) (big_integer column) }
-{
-    match session.read_as::<i64>(arena, column) {
-        Ok(n) => Answer::BigInt(n),
-        Err(fault) => Answer::Refused(fault),
+    // A fetch.
+    fn fetch(&mut self) -> Answer
+        requires { Playable H.Host.meaning self.old }
+        ensures { Answers H.Host.meaning fetching result self.old self.new }
+    {
+        self.session
+            .fetch(self.arena)
+            .map_or_else(Answer::Refused, Answer::from)
     }
-}
 
-fn time_step<H: Host>(session: &Session<H>, arena: &[u8], column: usize) -> Answer
-    requires ready { Ready (H.Host.meaning session.now.host) session.now arena.now }
-    ensures { said_of result ≡ ideal_answer (ideal_of (H.Host.meaning session.now.host) session.now arena.now) (time column) }
-{
-    match session.read_as::<MysqlTime>(arena, column) {
-        Ok(t) => Answer::Time(t),
-        Err(fault) => Answer::Refused(fault),
+    // A raw reading; the bytes are copied.
+    fn read(&self, column: usize) -> Result<Answer, PlayError>
+        requires { Playable H.Host.meaning self.now }
+        ensures { SaidIf (ideal H.Host.meaning self.now) (reading column) result }
+    {
+        match self.session.read(self.arena, column) {
+            Ok(Some(shown)) => {
+                let value = shown.value();
+                let bytes = value.as_bytes().to_vec(self.heap)?;
+                Ok(Answer::Bytes(value.value_type(), bytes))
+            }
+            Ok(None) => Ok(Answer::Null),
+            Err(fault) => Ok(Answer::Refused(fault)),
+        }
     }
-}
 
-// One call.
-pub(crate) fn step<H: Host>(
-    heap: Global,
-    session: &mut Session<H>,
-    slip: Option<Slip>,
-    arena: &mut [u8],
-    call: Call,
-) -> Left
-    requires slip { is_some slip ≡ session.old.opened }
-    requires ready { Ready (H.Host.meaning session.old.host) session.old arena.old }
-    ensures slip { is_some result.slip ≡ session.new.opened }
-    ensures moved { MovedIf (ideal_of (H.Host.meaning session.old.host) session.old arena.old) (asked_of call.entry) result.answer (H.Host.meaning session.new.host) session.new arena.new }
-{
-    let answer = match call {
-        Call::Open(wanted) => return open_step(session, slip, arena, wanted),
-        Call::Fetch => Ok(fetch_step(session, arena)),
-        Call::Read(column) => read_step(heap, session, arena, column),
-        Call::ReadInteger(column) => Ok(integer_step(session, arena, column)),
-        Call::ReadBigInt(column) => Ok(big_integer_step(session, arena, column)),
-        Call::ReadTime(column) => Ok(time_step(session, arena, column)),
-    };
-    Left { slip, answer }
+    // A reading as a value of a type, which an answer holds.
+    fn read_as<T: FromSql, F: FnOnce(T) -> Answer>(&self, column: usize, held_by: F) -> Answer
+        requires playable { Playable H.Host.meaning self.now }
+        requires callable { F.IsAlwaysCallable held_by }
+        ensures { ReadsAs T.FromSql.reads (ideal H.Host.meaning self.now) column (F.post held_by) result }
+    {
+        self.session
+            .read_as(self.arena, column)
+            .map_or_else(Answer::Refused, held_by)
+    }
+
+    // One call.
+    pub(crate) fn answer(&mut self, call: Call) -> Result<Answer, PlayError>
+        requires { Playable H.Host.meaning self.old }
+        ensures { AnswersIf H.Host.meaning (asked_of call.entry) result self.old self.new }
+    {
+        match call {
+            Call::Open(wanted) => Ok(self.open(wanted)),
+            Call::Fetch => Ok(self.fetch()),
+            Call::Read(column) => self.read(column),
+            Call::ReadInteger(column) => Ok(self.read_as(column, Answer::Integer)),
+            Call::ReadBigInt(column) => Ok(self.read_as(column, Answer::BigInt)),
+            Call::ReadTime(column) => Ok(self.read_as(column, Answer::Time)),
+        }
+    }
+
+    // Closes the session, and hands its host back.
+    pub(crate) fn close(self) -> H
+        ensures { H.Host.meaning result ≡ freed (H.Host.meaning self.entry.session.host) }
+    {
+        let Player {
+            heap: _,
+            session,
+            slip,
+            arena: _,
+        } = self;
+        session.close(slip)
+    }
 }

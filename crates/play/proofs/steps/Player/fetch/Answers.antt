@@ -1,17 +1,17 @@
-use Rattle.std.proofs.Common.{◌≡◌, length, sym, ap, subst, rules}
+use Rattle.std.proofs.Common.{◌≡◌, length, sym, ap, ◌∙◌, subst, rules}
 use Rattle.session.specs.declared.state.Session.{Session}
 use Rattle.play.specs.declared.calls.Answer.{Answer}
 use Rattle.play.specs.Histories.{fetch}
 use Rattle.play.specs.Moves.{ideal_of, Moved}
-use Rattle.play.proofs.Moves.{fetch_opened, fetch_moved}
-use Rattle.play.proofs.steps.fetch_step.Goals as goal
+use Rattle.play.proofs.Moves.{fetch_opened, fetch_moved, fetched_answer}
+use Rattle.play.proofs.steps.Player.fetch.Goals as goal
 
 pub returns : goal.returns
 returns g c =
-    let s = c.args.session.now in let s' = c.fetch.new.self in
+    let s = c.args.self.now.session in let s' = c.fetch.new.self in
     let meaning = g.H.Host.meaning in
     let m = meaning s.host in let m' = meaning s'.host in
-    let a = c.args.arena.now in let a' = c.fetch.new.arena in
+    let a = c.args.self.now.arena.now in let a' = c.fetch.new.arena in
     let long : length a' ≡ length a = search rules in
     let ready = c.requires.ready in
     let e = c.fetch.ensures in
@@ -19,8 +19,8 @@ returns g c =
     let holds = e.holds ready.sound ready.holds in
     let same_host : s' ≡ s → m' ≡ m = ap (λ (x : Session g.row.H.Denot). meaning x.host) in
     record {
-      opened = fetch_opened m m' s s' a a' long same_host ready sound holds c.fetch.result (e.answer ready.sound) e.unchecked (e.after ready.sound);
+      tied = c.requires.tied ∙ sym (fetch_opened m m' s s' a a' long same_host ready sound holds c.fetch.result (e.answer ready.sound) e.unchecked (e.after ready.sound));
       moved =
-          subst (λ (r : Answer). Moved (ideal_of m s a) fetch r m' s' a') (sym c.fetch_answer.ensures)
+          subst (λ (r : Answer). Moved (ideal_of m s a) fetch r m' s' a') (sym (fetched_answer c.fetch.result c.map_or_else.result c.map_or_else.ensures))
           (fetch_moved m m' s s' a a' long same_host ready sound holds c.fetch.result (e.answer ready.sound) e.unchecked (e.after ready.sound));
     }
