@@ -9,7 +9,7 @@ use Rattle.mysql.specs.Faults.{refused}
 use Rattle.host.specs.Meanings.{Row, Event, Meaning}
 use Rattle.host.specs.Meanings as event
 use Rattle.layout.specs.declared.table.ColumnTable.{ColumnTable}
-use Rattle.layout.specs.Tables.{count_of, col}
+use Rattle.layout.specs.Tables.{col}
 use Rattle.rows.specs.declared.answers.Fetch.{Fetch}
 use Rattle.rows.specs.declared.answers.Fetch.TheVariants as fetch_answer
 use Rattle.session.specs.declared.answers.Slip.{Slip}
@@ -109,8 +109,12 @@ module _ {H : Type 0} (m m' : Meaning) (s s' : Session H) (a a' : List ℕ) (wan
       opening_by r (dues.opening s.opened (length a) m.carries wanted m.columns)
       (ap (λ (b : Bool). dues.opening b (length a) m.carries wanted m.columns) (is_some s.opened (pairs_of s.table))) w
 
--- a session stays as it is where an opening is refused
+-- a session is opened by a granted opening, and stays as it is where one is refused
 module _ {H : Type 0} (m m' : Meaning) (s s' : Session H) (a a' : List ℕ) where
+  pub opens : (slip : Slip) (d : Result (List Column) Fault) → AfterOpening (Ok slip) d m m' s s' a a' → s'.opened ≡ true
+  opens slip (Ok pairs) w = w.opened
+  opens slip (Err f) w = absurd w
+
   pub opens_not : (f : Fault) (d : Result (List Column) Fault) → AfterOpening (Err f) d m m' s s' a a' → s'.opened ≡ s.opened
   opens_not f (Ok pairs) w = absurd w
   opens_not f (Err g) w = w.1.opened
@@ -222,7 +226,7 @@ module _ {H X : Type 0} (m : Meaning) (s : Session H) (a : List ℕ) (k : ℕ) (
   read_by false o =
       exact
       ∙ ap (dues.read_as reads k)
-      (unopened s (length a) (cond (nat_lt k (count_of s.table)) (cond s.shown (record_shown k (col s.table k) a) (Err (refused NoCurrentRow))) (Err (refused NoSuchColumn))) o)
+      (unopened s (length a) (cond (nat_lt k s.table.count) (cond s.shown (record_shown k (col s.table k) a) (Err (refused NoCurrentRow))) (Err (refused NoSuchColumn))) o)
 
   -- from what a typed reading ensures
   pub read_is : r ≡ dues.read_as reads k (read_due (ideal_of m s a).bound (ideal_of m s a).shown k)
