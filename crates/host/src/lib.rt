@@ -11,7 +11,7 @@ mod whole;
 
 pub use binding::bind_all;
 use mysql::Column;
-pub use records::{BindRecord, ClientError, Fetched, PAST_COLUMN, Report};
+pub use records::{BindRecord, ClientError, Fetched, MOST_COLUMNS, PAST_COLUMN, Report};
 pub use whole::fetch_whole;
 
 // A client library that holds the result of one statement. The calls are those of MySQL's C API: a call answers a flag or a number, and

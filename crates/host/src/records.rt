@@ -1,8 +1,14 @@
 // What the session and the client library hand each other.
-use mysql::Column;
+use mysql::{Column, MYSQL_TYPE_NULL};
+
+// The most columns that a host has.
+pub const MOST_COLUMNS: usize = 64;
 
 // What stands for a column past the last one.
-pub const PAST_COLUMN: Column = Column { code: 6, flags: 0 };
+pub const PAST_COLUMN: Column = Column {
+    code: MYSQL_TYPE_NULL,
+    flags: 0,
+};
 
 // Where and how a column is to be written: its code, whether its numbers have no sign, and the bytes of the arena, from `start` on,
 // that it may be written to.

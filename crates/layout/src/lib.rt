@@ -10,5 +10,6 @@ mod opening;
 mod record;
 mod table;
 
+pub use opening::MOST_BYTES;
 pub use record::ColumnRecord;
 pub use table::ColumnTable;

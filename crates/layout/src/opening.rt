@@ -7,12 +7,11 @@ ghost use Rattle.layout.specs.Tables.{Opens, Added, first_capacity, count_of, en
 use crate::record::ColumnRecord;
 use crate::table::ColumnTable;
 use arrayvec::ArrayVec;
+use host::MOST_COLUMNS;
 use mysql::{Column, known_buffer_size_for_ffi_type};
 
-// The most columns and the most bytes of arena that there can be.
-const MOST_COLUMNS: usize = 64;
-
-const MOST_BYTES: usize = 65536;
+// The most bytes that an arena has.
+pub const MOST_BYTES: usize = 65536;
 
 impl ColumnTable {
     // The table of no session: no columns, and no room.

@@ -9,11 +9,8 @@ use crate::answers::Slip;
 use crate::state::Session;
 use arrayvec::ArrayVec;
 use host::{Host, bind_all};
-use layout::ColumnTable;
+use layout::{ColumnTable, MOST_BYTES};
 use mysql::{Column, Fault, MysqlType, Refusal, taken};
-
-// The most bytes that an arena has; `layout` has this number for its own tables.
-const MOST_BYTES: usize = 65536;
 
 // The code and flags that a column of a host's result is bound with. No type is wanted of the columns past the end of the list.
 fn bound_column<H: Host>(

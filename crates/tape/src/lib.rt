@@ -8,5 +8,5 @@ mod walk;
 
 pub use event::{Event, Row};
 pub use field::Field;
-pub use recording::{COLUMN_SIZE, Columns, Events, Fields, MOST_COLUMNS, Recording};
+pub use recording::{COLUMN_SIZE, Columns, Events, Fields, Recording};
 pub use walk::{take_column, take_event};

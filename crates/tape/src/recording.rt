@@ -9,10 +9,8 @@ ghost use Rattle.std.specs.Iterator.{at_most};
 use crate::event::{Event, Row};
 use crate::field::Field;
 use crate::walk::{take_column, take_event, take_field, take_u16};
+use host::MOST_COLUMNS;
 use mysql::{Column, Fault, Refusal};
-
-// The most columns that a tape has.
-pub const MOST_COLUMNS: usize = 64;
 
 // How many bytes a column takes.
 pub const COLUMN_SIZE: usize = 5;

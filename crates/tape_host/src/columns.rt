@@ -6,10 +6,7 @@ ghost use Rattle.tape_host.specs.Wholes.{own_codes};
 
 use host::{BindRecord, PAST_COLUMN};
 use mysql::Column;
-use tape::take_column;
-
-// How many bytes a column takes.
-const COLUMN_SIZE: usize = 5;
+use tape::{COLUMN_SIZE, take_column};
 
 pub(crate) fn count_columns(columns: &[u8]) -> usize
     ensures { result ≡ length (columns_in columns.now) }

@@ -7,10 +7,10 @@ ghost use Rattle.tray.specs.Formeds.{formed};
 use crate::rows::write_field;
 use crate::tray::Tray;
 use host::{BindRecord, ClientError, Fetched, Host, PAST_COLUMN, Report};
-use mysql::Column;
+use mysql::{Column, MYSQL_TYPE_VAR_STRING};
 
 // The code of the one column.
-const CODE: u8 = 253;
+const CODE: u8 = MYSQL_TYPE_VAR_STRING;
 
 impl Tray {
     // The place of the column, where a fetch into an arena of this length, with this many reports, is allowed.
