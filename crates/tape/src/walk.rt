@@ -1,5 +1,4 @@
-// Steps over a tape's bytes: each takes one thing off their front, and gives it with the bytes after it. The bytes that a field and an event
-// begin with are the format's.
+// Steps over a tape's bytes: each takes one thing off their front, and gives it with the bytes after it.
 ghost use Rattle.std.specs.Prelude.{◌≡◌, ℕ};
 ghost use Rattle.std.specs.Option.{option_map};
 ghost use Rattle.tape.specs.Decode.{take2, take4, take_held, take_field, take_fields, take_column, take_event, left};
@@ -13,7 +12,8 @@ use mysql::{Column, known_buffer_size_for_ffi_type};
 // The number that no failure has.
 const NO_FAILURE: u16 = 0;
 
-// A number in two bytes.
+// A number in two bytes. It and the next stay two functions: each is two lines over `split_first_chunk`, and one over both numbers would need a
+// trait of its own.
 pub fn take_u16(bytes: &[u8]) -> Option<(u16, &[u8])>
     ensures { take2 bytes.now ≡ off (λ n. n) result }
 {
@@ -43,7 +43,7 @@ fn take_held(code: u8, lost: bool, bytes: &[u8]) -> Option<(Field<'_>, &[u8])>
     Some((Field::Held { bytes: held, lost }, rest))
 }
 
-// A field of a column with this code.
+// A field of a column with this code. The bytes 0, 1 and 2 are the format's.
 pub fn take_field(code: u8, bytes: &[u8]) -> Option<(Field<'_>, &[u8])>
     ensures { take_field code bytes.now ≡ off field_of result }
 {
@@ -75,7 +75,7 @@ fn skip_fields<'a>(columns: &[u8], bytes: &'a [u8]) -> Option<&'a [u8]>
     Some(rest)
 }
 
-// An event of a recording with these columns.
+// An event of a recording with these columns. The bytes 0 and 1 are the format's.
 pub fn take_event<'a>(columns: &'a [u8], bytes: &'a [u8]) -> Option<(Event<'a>, &'a [u8])>
     ensures taken { take_event (columns_in columns.now) bytes.now ≡ off event_of result }
     ensures columned { Columned columns.now result }
