@@ -75,9 +75,9 @@ pub const NO_COLUMN: u8 = 255;
 #[derive(Clone, Copy, PartialEq, Eq, Debug)]
 pub struct Fault {
     refusal: Refusal,
-    // the column, where the refusal can name one, or 255 (no Option: with one, `at(255)` would differ from a fault that answers the same)
+    // the column, where the refusal can name one; 255 is none. No Option: `at(255)` has to equal the fault without one
     column: u8,
-    // the host's error number, where the host failed (no Option: a failure of which none is known answers 0 too, and would differ from it)
+    // the host's error number, where the host failed; 0 where none is known. No Option: `host(0)` has to equal that fault
     host: u16,
 }
 

@@ -22,6 +22,7 @@ pub trait Target: Sized {
         ensures { through whole result ≡ in_range half x };
 }
 
+// Two impls of two lines each: a default body of `narrow` would ask `TryFrom<i64>` of every target.
 impl Target for i32 {
     ghost half = { 2 ^ 31 };
 

@@ -1,10 +1,8 @@
 -- A number's bytes, read by the library and by `le`.
 -- Assumes nothing.
-use Rattle.std.proofs.Common.{◌≡◌, ℕ, ◌+◌, ◌≤◌, List, [], ◌∷◌, length, take, drop, w16, w32, w64, slice_index, ap, ◌∙◌, arith}
+use Rattle.std.proofs.Common.{◌≡◌, ℕ, List, [], ◌∷◌, length, w16, w32, w64, slice_index, arith}
 use Rattle.std.specs.Int.{from_le_bytes}
-use Rattle.std.proofs.lemmas.Grind.{common_steps}
 use Rattle.readings.specs.Bytes.{le}
-use Rattle.readings.specs.Times.{number_at}
 
 pub le_1 : (bs : List ℕ) → length bs ≡ 1 → slice_index bs 0 ≡ le bs
 le_1 [] h = absurd (omega arith)
@@ -36,11 +34,3 @@ le_8 (a ∷ b ∷ c ∷ d ∷ e ∷ f ∷ []) h = absurd (omega arith)
 le_8 (a ∷ b ∷ c ∷ d ∷ e ∷ f ∷ g ∷ []) h = absurd (omega arith)
 le_8 (a ∷ b ∷ c ∷ d ∷ e ∷ f ∷ g ∷ i ∷ []) h = omega arith
 le_8 (a ∷ b ∷ c ∷ d ∷ e ∷ f ∷ g ∷ i ∷ j ∷ r) h = absurd (omega arith)
-
--- the number at an offset
-
-pub at_4 : (raw b : List ℕ) (at : ℕ) → b ≡ take 4 (drop at raw) → at + 4 ≤ length raw → from_le_bytes w32 b ≡ number_at 4 at raw
-at_4 raw b at e h = le_4 b (ap length e ∙ grind (arith, common_steps)) ∙ ap le e
-
-pub at_8 : (raw b : List ℕ) (at : ℕ) → b ≡ take 8 (drop at raw) → at + 8 ≤ length raw → from_le_bytes w64 b ≡ number_at 8 at raw
-at_8 raw b at e h = le_8 b (ap length e ∙ grind (arith, common_steps)) ∙ ap le e

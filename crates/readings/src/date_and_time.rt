@@ -25,7 +25,7 @@ pub struct MysqlTime {
     pub second_part: u64,
     // whether it is negative; a reading never gives such a one
     pub neg: bool,
-    // 0 for a date, 1 for both, 2 for a time
+    // 0 for a date, 1 for both, 2 for a time: a number as in C's record, where nothing checks it
     pub time_type: i32,
     // in seconds
     pub time_zone_displacement: i32,
@@ -34,7 +34,8 @@ pub struct MysqlTime {
 // The bytes that lie at an offset.
 fn bytes_at<const N: usize>(raw: &[u8], at: usize) -> &[u8; N]
     requires { at + N ≤ length raw.now }
-    ensures { result.now ≡ take N (drop at raw.now) }
+    ensures bytes { result.now ≡ take N (drop at raw.now) }
+    ensures length { length result.now ≡ N }
 {
     raw[at..].first_chunk().unwrap()
 }

@@ -13,14 +13,15 @@ use mysql::{Fault, Refusal};
 
 // A type that values are read as.
 pub trait FromSql: Sized {
-    // What a value of a type and with some bytes is read as.
+    // What a value of a type and with some bytes is read as. (Of type and bytes, and of no `MysqlValue`: the session's definitions
+    // have the two, and no view.)
     ghost reads: { AnyType → List ℕ → Answer Self AnyFault };
 
     fn from_sql(value: &MysqlValue) -> Result<Self, Fault>
         ensures { result ≡ reads value.now.tpe value.now.raw.now };
 }
 
-// Integer
+// Integer. (No impl over `T: Target`: it would overlap with MysqlTime's.)
 impl FromSql for i32 {
     ghost reads = { integer (2 ^ 31) };
 

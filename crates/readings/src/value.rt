@@ -6,6 +6,7 @@ ghost use Rattle.readings.specs.Values.{representation};
 
 use NumericRepresentation as Number;
 use mysql::{Fault, MysqlType, Refusal};
+// floats of their bits, of which all that are no number give one
 use std::num::{f32_from_bits_with_nan as single, f64_from_bits_with_nan as double};
 
 // Bytes with the type that they have: a view, which copies nothing.
