@@ -20,7 +20,3 @@ fits_unless_over t k l h here =
     (λ (o : c.capacity < c.length). absurd (h (record { variable = v; not_null = here; longer = o })))
     (λ (o : c.length ≤ c.capacity). o)
     (cases_lt c.capacity c.length))
-
--- and a text longer than its place does not
-pub over_not_fits : (c : ColumnRecord) → Over c → Fits c → ⊥
-over_not_fits c o h = omega (arith, h o.not_null, o.longer, ap (λ (z : Option ℕ). bytes_by z c.length) o.variable)

@@ -38,6 +38,3 @@ module _ (t : ColumnTable) where
 
   pub end_in_room : end t ≤ t.room
   end_in_room = t.within
-
-  pub end_is : (k : ℕ) → count_of t ≡ k + 1 → end t ≡ start t k + (col t k).capacity
-  end_is k e = omega (arith, t.laid k (omega arith), sum_by_more capacity t.columns.items k no_record (omega arith), span_all t.columns.items (k + 1) (omega arith))
