@@ -1,13 +1,11 @@
 -- What a report that is noted leaves of a table.
-use Rattle.std.proofs.Common.{◌≡◌, ℕ, ◌+◌, ◌<◌, ◌≤◌, ◌≢◌, List, map, length, get_or, set, refl, ap, ◌∙◌, subst, ⊎_elim, arith}
-use Rattle.std.proofs.lemmas.List.{get_or-set_same, get_or-set_other}
-use Rattle.std.proofs.Math.Seq.{map-set_same}
+use Rattle.std.proofs.Common.{◌≡◌, ℕ, ◌+◌, ◌<◌, ◌≤◌, List, get_or, ap, ◌∙◌, subst, ⊎_elim, arith}
 use Rattle.std.proofs.lemmas.Bool.{cases_lt}
 use Rattle.host.specs.declared.records.Report.{Report}
 use Rattle.host.specs.Calls.{no_report}
 use Rattle.layout.specs.declared.record.ColumnRecord.{ColumnRecord}
 use Rattle.layout.specs.declared.table.ColumnTable.{ColumnTable}
-use Rattle.layout.specs.Columns.{no_record, bind_of, noted}
+use Rattle.layout.specs.Columns.{noted}
 use Rattle.layout.specs.Tables.{count_of, col, NotedAt, SamePlaces}
 
 pub same_places : (t u v : ColumnTable) → SamePlaces t u → SamePlaces u v → SamePlaces t v
