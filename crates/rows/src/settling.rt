@@ -26,7 +26,8 @@ pub fn populate_dynamic_buffers<H: Host>(
         return Err(Fault::new(Refusal::NumericOverflow).at(k as u8));
     }
     if !table.fits() {
-        *table = grow(host, table, arena)?;
+        let new = grow(host, table, arena)?;
+        *table = new;
     }
     Ok(())
 }

@@ -12,55 +12,28 @@ use Rattle.rows.proofs.Wholes.{WholeTo, whole_none, whole_skip, whole_fetched, m
 use Rattle.rows.proofs.settling.fetch_missing.Goals as goal
 use Rattle.rows.proofs.settling.fetch_missing.Goals.{then-is_over+in_ok-report, else-is_over}
 
-pub overflow_add-missing : goal.overflow_add-missing
-overflow_add-missing g c =
+-- where a column is over, what is missing of it lies inside the arena
+missing_fits : (g : Rattle.rows.proofs.settling.fetch_missing.Given.Over) (c : goal.After-deref g)
+    → (get_or c.deref.result.now c.loop-i.i no_record).start + (get_or c.deref-column-items.result.now c.loop-i.i no_record).length ≤ length c.loop-i.arena
+missing_fits g c =
     let at = ap (λ (z : List ColumnRecord). get_or z c.loop-i.i no_record) c.deref-column-items.ensures.0 in
     let to = ap (λ (z : List ColumnRecord). get_or z c.loop-i.i no_record) c.deref.ensures.0 in
-    let o = c.is_over.ensures.yes c.if-is_over.true in
-    let longer = o.longer in
-    let z = missing_inside c.args.old.now c.args.new.now c.loop-i.new c.requires.grown c.loop-i.invariant.0 c.loop-i.i (omega (arith, c.loop-i-test.true, ap length c.deref-column-items.ensures.0)) _ _ at to o in
-    let room = c.requires.room in let long = c.loop-i.auto.arena in
-    search rules
+    omega (arith, c.requires.room, c.loop-i.auto.arena, missing_inside c.args.old.now c.args.new.now c.loop-i.new c.requires.grown c.loop-i.invariant.0 c.loop-i.i (omega (arith, c.loop-i-test.true, ap length c.deref-column-items.ensures.0)) _ _ at to (c.is_over.ensures.yes c.if-is_over.true))
+
+pub overflow_add-missing : goal.overflow_add-missing
+overflow_add-missing g c = let z = missing_fits g c in let o = (c.is_over.ensures.yes c.if-is_over.true).longer in search rules
 
 pub overflow_add-missing-then-is_over : goal.overflow_add-missing-then-is_over
-overflow_add-missing-then-is_over g c =
-    let at = ap (λ (z : List ColumnRecord). get_or z c.loop-i.i no_record) c.deref-column-items.ensures.0 in
-    let to = ap (λ (z : List ColumnRecord). get_or z c.loop-i.i no_record) c.deref.ensures.0 in
-    let o = c.is_over.ensures.yes c.if-is_over.true in
-    let longer = o.longer in
-    let z = missing_inside c.args.old.now c.args.new.now c.loop-i.new c.requires.grown c.loop-i.invariant.0 c.loop-i.i (omega (arith, c.loop-i-test.true, ap length c.deref-column-items.ensures.0)) _ _ at to o in
-    let room = c.requires.room in let long = c.loop-i.auto.arena in
-    search rules
+overflow_add-missing-then-is_over g c = let z = missing_fits g c in let o = (c.is_over.ensures.yes c.if-is_over.true).longer in search rules
 
 pub slice_bounds-missing-start : goal.slice_bounds-missing-start
-slice_bounds-missing-start g c =
-    let at = ap (λ (z : List ColumnRecord). get_or z c.loop-i.i no_record) c.deref-column-items.ensures.0 in
-    let to = ap (λ (z : List ColumnRecord). get_or z c.loop-i.i no_record) c.deref.ensures.0 in
-    let o = c.is_over.ensures.yes c.if-is_over.true in
-    let longer = o.longer in
-    let z = missing_inside c.args.old.now c.args.new.now c.loop-i.new c.requires.grown c.loop-i.invariant.0 c.loop-i.i (omega (arith, c.loop-i-test.true, ap length c.deref-column-items.ensures.0)) _ _ at to o in
-    let room = c.requires.room in let long = c.loop-i.auto.arena in
-    search rules
+slice_bounds-missing-start g c = let z = missing_fits g c in let o = (c.is_over.ensures.yes c.if-is_over.true).longer in search rules
 
 pub slice_bounds-missing-end : goal.slice_bounds-missing-end
-slice_bounds-missing-end g c =
-    let at = ap (λ (z : List ColumnRecord). get_or z c.loop-i.i no_record) c.deref-column-items.ensures.0 in
-    let to = ap (λ (z : List ColumnRecord). get_or z c.loop-i.i no_record) c.deref.ensures.0 in
-    let o = c.is_over.ensures.yes c.if-is_over.true in
-    let longer = o.longer in
-    let z = missing_inside c.args.old.now c.args.new.now c.loop-i.new c.requires.grown c.loop-i.invariant.0 c.loop-i.i (omega (arith, c.loop-i-test.true, ap length c.deref-column-items.ensures.0)) _ _ at to o in
-    let room = c.requires.room in let long = c.loop-i.auto.arena in
-    search rules
+slice_bounds-missing-end g c = let z = missing_fits g c in let o = (c.is_over.ensures.yes c.if-is_over.true).longer in search rules
 
 pub slice_bounds-missing-count : goal.slice_bounds-missing-count
-slice_bounds-missing-count g c =
-    let at = ap (λ (z : List ColumnRecord). get_or z c.loop-i.i no_record) c.deref-column-items.ensures.0 in
-    let to = ap (λ (z : List ColumnRecord). get_or z c.loop-i.i no_record) c.deref.ensures.0 in
-    let o = c.is_over.ensures.yes c.if-is_over.true in
-    let longer = o.longer in
-    let z = missing_inside c.args.old.now c.args.new.now c.loop-i.new c.requires.grown c.loop-i.invariant.0 c.loop-i.i (omega (arith, c.loop-i-test.true, ap length c.deref-column-items.ensures.0)) _ _ at to o in
-    let room = c.requires.room in let long = c.loop-i.auto.arena in
-    search rules
+slice_bounds-missing-count g c = let z = missing_fits g c in let o = (c.is_over.ensures.yes c.if-is_over.true).longer in search rules
 
 pub loop-i-init : goal.loop-i-init
 loop-i-init g c = (

@@ -27,20 +27,20 @@ returns-else-not-fits g c = record {
       shows_as_it_is m row t rs a got u written c.note_all.ensures.places c.in_default.ensures (c.fits.ensures.yes c.if-not-fits.false);
 }
 
-pub returns-in_ok-table : goal.returns-in_ok-table
-returns-in_ok-table g c = record {
-  fit = c.in_ok-table.ensures.fit;
+pub returns-in_ok-new : goal.returns-in_ok-new
+returns-in_ok-new g c = record {
+  fit = c.in_ok-new.ensures.fit;
   came = λ row got.
       let m = g.H.Host.meaning c.args.host.now in
       let t = c.args.table.now in let rs = c.args.reports.now in let a = c.args.arena.now in
       let u = c.note_all.new.self in
       let written = c.note_all.ensures.noted (omega (arith, got.as_many)) in
-      let grew = c.in_ok-table.ensures.came row (in_row m row t rs a got u written c.note_all.ensures.places) c.in_default.ensures in
-      shows_grown m row t rs a got u written c.note_all.ensures.places c.in_default.ensures c.in_ok-table.field-0 (g.H.Host.meaning c.grow.new.host) c.grow.new.arena grew;
+      let grew = c.in_ok-new.ensures.came row (in_row m row t rs a got u written c.note_all.ensures.places) c.in_default.ensures in
+      shows_grown m row t rs a got u written c.note_all.ensures.places c.in_default.ensures c.in_ok-new.new (g.H.Host.meaning c.grow.new.host) c.grow.new.arena grew;
 }
 
-pub returns-in_err-table : goal.returns-in_err-table
-returns-in_err-table g c =
+pub returns-in_err-new : goal.returns-in_err-new
+returns-in_err-new g c =
     let p = err_from_is_err_and c.from_residual.result c.from_residual.ensures.1 in
     let m = g.H.Host.meaning c.args.host.now in
     let t = c.args.table.now in let rs = c.args.reports.now in let a = c.args.arena.now in
@@ -50,6 +50,6 @@ returns-in_err-table g c =
       fit = tt;
       came = λ row got.
           let written = c.note_all.ensures.noted (omega (arith, got.as_many)) in
-          let stayed = c.in_err-table.ensures.came row (in_row m row t rs a got u written c.note_all.ensures.places) c.in_default.ensures in
+          let stayed = c.in_err-new.ensures.came row (in_row m row t rs a got u written c.note_all.ensures.places) c.in_default.ensures in
           refuses_long m row t rs a got u written c.note_all.ensures.places c.in_default.ensures _ (g.H.Host.meaning c.grow.new.host) c.grow.new.arena stayed;
     })
