@@ -9,7 +9,7 @@ use Rattle.mysql.specs.Faults.{refused}
 use Rattle.host.specs.Meanings.{Row, Event, Meaning}
 use Rattle.host.specs.Meanings as event
 use Rattle.layout.specs.declared.table.ColumnTable.{ColumnTable}
-use Rattle.layout.specs.Tables.{col}
+use Rattle.layout.specs.Tables.{count_of, col}
 use Rattle.rows.specs.declared.answers.Fetch.{Fetch}
 use Rattle.rows.specs.declared.answers.Fetch.TheVariants as fetch_answer
 use Rattle.session.specs.declared.answers.Slip.{Slip}
@@ -17,7 +17,7 @@ use Rattle.session.specs.declared.state.Session.{Session}
 use Rattle.rows.specs.Dues as dues
 use Rattle.session.specs.Sessions as session
 use Rattle.rows.specs.Standing.{pairs_of}
-use Rattle.session.specs.Sessions.{shown_row, Sound, Holds, passes, past_checks, record_shown, Opened, NotOpened, AfterOpening, AfterFetch, NotFetched}
+use Rattle.session.specs.Sessions.{is_open, is_shown, shown_row, Sound, Holds, passes, past_checks, record_shown, Opened, NotOpened, AfterOpening, AfterFetch, NotFetched}
 use Rattle.play.specs.declared.calls.Answer.{Answer}
 use Rattle.play.specs.declared.calls.Answer.TheVariants as answers
 use Rattle.play.specs.Histories.{opening, fetch}
@@ -35,23 +35,23 @@ pub same_state : (x y : State) → x.columns ≡ y.columns → x.carries ≡ y.c
 same_state x y p q r s t u = λ i. record { columns = p i; carries = q i; arena = r i; coming = s i; bound = t i; shown = u i }
 
 -- a session that is not opened passes no check
-unopened : {H X : Type 0} (s : Session H) (n : ℕ) (r : Result X Fault) → s.opened ≡ false → past_checks s n r ≡ Err (refused Unopened)
+unopened : {H X : Type 0} (s : Session H) (n : ℕ) (r : Result X Fault) → is_open s ≡ false → past_checks s n r ≡ Err (refused Unopened)
 unopened s n r o = ap (λ (b : Bool). cond b (cond (eqb n s.table.room) r (Err (refused ArenaLength))) (Err (refused Unopened))) o
 
 -- one that is opened over an arena of this length passes both
-opened_past : {H X : Type 0} (s : Session H) (n : ℕ) (r : Result X Fault) → s.opened ≡ true → eqb n s.table.room ≡ true → past_checks s n r ≡ r
+opened_past : {H X : Type 0} (s : Session H) (n : ℕ) (r : Result X Fault) → is_open s ≡ true → eqb n s.table.room ≡ true → past_checks s n r ≡ r
 opened_past s n r o l =
     ap (λ (b : Bool). cond b (cond (eqb n s.table.room) r (Err (refused ArenaLength))) (Err (refused Unopened))) o
     ∙ ap (λ (b : Bool). cond b r (Err (refused ArenaLength))) l
 
 module _ {H : Type 0} (m : Meaning) (s : Session H) (a : List ℕ) (ready : Ready m s a) where
-  same_length : s.opened ≡ true → eqb (length a) s.table.room ≡ true
+  same_length : is_open s ≡ true → eqb (length a) s.table.room ≡ true
   same_length o = eq-eqb (length a) s.table.room (sym (ready.room o))
 
-  passed : s.opened ≡ true → passes s a ≡ true
+  passed : is_open s ≡ true → passes s a ≡ true
   passed o = ap (λ (b : Bool). b && eqb (length a) s.table.room) o ∙ same_length o
 
-  stopped : s.opened ≡ false → passes s a ≡ false
+  stopped : is_open s ≡ false → passes s a ≡ false
   stopped o = ap (λ (b : Bool). b && eqb (length a) s.table.room) o
 
 -- openings
@@ -79,8 +79,8 @@ module _ {H : Type 0} (m m' : Meaning) (s s' : Session H) (a a' : List ℕ) (wan
       (ap (λ (x : Meaning). x.carries) o.host)
       long
       (ap (λ (x : Meaning). x.coming) o.host)
-      (ap (λ (b : Bool). cond b (Some (pairs_of s'.table)) None) o.opened ∙ ap (λ (t : ColumnTable). cond s.opened (Some (pairs_of t)) None) o.table)
-      (ap (λ (b : Bool). cond b m'.current None) o.shown ∙ ap (λ (x : Meaning). cond s.shown x.current None) o.host)
+      (ap (λ (b : Bool). cond b (Some (pairs_of s'.table)) None) o.opened ∙ ap (λ (t : ColumnTable). cond (is_open s) (Some (pairs_of t)) None) o.table)
+      (ap (λ (b : Bool). cond b m'.current None) o.shown ∙ ap (λ (x : Meaning). cond (is_shown s) x.current None) o.host)
 
   opening_by : (r : Result Slip Fault) (d : Result (List Column) Fault) → dues.opening (option_is_some (ideal_of m s a).bound) (length a) m.carries wanted m.columns ≡ d → AfterOpening r d m m' s s' a a'
       → Moved (ideal_of m s a) (opening wanted) (opening_answer r) m' s' a'
@@ -103,19 +103,15 @@ module _ {H : Type 0} (m m' : Meaning) (s s' : Session H) (a a' : List ℕ) (wan
         };
       }
 
-  pub opening_moved : (r : Result Slip Fault) → AfterOpening r (dues.opening s.opened (length a) m.carries wanted m.columns) m m' s s' a a'
+  pub opening_moved : (r : Result Slip Fault) → AfterOpening r (dues.opening (is_open s) (length a) m.carries wanted m.columns) m m' s s' a a'
       → Moved (ideal_of m s a) (opening wanted) (opening_answer r) m' s' a'
   opening_moved r w =
-      opening_by r (dues.opening s.opened (length a) m.carries wanted m.columns)
-      (ap (λ (b : Bool). dues.opening b (length a) m.carries wanted m.columns) (is_some s.opened (pairs_of s.table))) w
+      opening_by r (dues.opening (is_open s) (length a) m.carries wanted m.columns)
+      (ap (λ (b : Bool). dues.opening b (length a) m.carries wanted m.columns) (is_some (is_open s) (pairs_of s.table))) w
 
--- a session is opened by a granted opening, and stays as it is where one is refused
+-- a session stays as it is where an opening is refused
 module _ {H : Type 0} (m m' : Meaning) (s s' : Session H) (a a' : List ℕ) where
-  pub opens : (slip : Slip) (d : Result (List Column) Fault) → AfterOpening (Ok slip) d m m' s s' a a' → s'.opened ≡ true
-  opens slip (Ok pairs) w = w.opened
-  opens slip (Err f) w = absurd w
-
-  pub opens_not : (f : Fault) (d : Result (List Column) Fault) → AfterOpening (Err f) d m m' s s' a a' → s'.opened ≡ s.opened
+  pub opens_not : (f : Fault) (d : Result (List Column) Fault) → AfterOpening (Err f) d m m' s s' a a' → is_open s' ≡ is_open s
   opens_not f (Ok pairs) w = absurd w
   opens_not f (Err g) w = w.1.opened
 
@@ -137,13 +133,13 @@ module _ {H : Type 0} (m m' : Meaning) (s s' : Session H) (a a' : List ℕ) (lon
   fetched_to coming r = record { columns = m.columns; carries = m.carries; arena = length a; coming = rest_of coming; bound = Some (pairs_of s.table); shown = shown_if r coming }
 
   -- from the parts that a fetch changes
-  fetched_is : (coming : List Event) (r : Result Fetch Fault) → m'.columns ≡ m.columns → m'.carries ≡ m.carries → m'.coming ≡ rest_of coming → s'.opened ≡ true → pairs_of s'.table ≡ pairs_of s.table → shown_row m' s' ≡ shown_if r coming → ideal_of m' s' a' ≡ fetched_to coming r
+  fetched_is : (coming : List Event) (r : Result Fetch Fault) → m'.columns ≡ m.columns → m'.carries ≡ m.carries → m'.coming ≡ rest_of coming → is_open s' ≡ true → pairs_of s'.table ≡ pairs_of s.table → shown_row m' s' ≡ shown_if r coming → ideal_of m' s' a' ≡ fetched_to coming r
   fetched_is coming r cs ca co o ps sh =
       same_state (ideal_of m' s' a') (fetched_to coming r) cs ca long co
       (ap (λ (b : Bool). cond b (Some (pairs_of s'.table)) None) o ∙ ap (λ (qs : List Column). Some qs) ps)
       sh
 
-  hidden : s'.shown ≡ false → shown_row m' s' ≡ None
+  hidden : is_shown s' ≡ false → shown_row m' s' ≡ None
   hidden e = ap (λ (b : Bool). cond b m'.current None) e
 
   -- where no row was next, none is shown
@@ -180,13 +176,13 @@ module _ {H : Type 0} (m m' : Meaning) (s s' : Session H) (a a' : List ℕ) (lon
   there b = fetch_at (ideal_of m s a) (cond b (Some (pairs_of s.table)) None)
 
   -- by whether the session is opened
-  fetch_by : (b : Bool) → s.opened ≡ b → r ≡ session.fetch_answer s a m.coming → (passes s a ≡ false → NotFetched s s' a a') → (passes s a ≡ true → AfterFetch m.coming r m m' s s' a a')
-      → (r ≡ fetch_due (cond b (Some (pairs_of s.table)) None) (length a) m.coming) × (ideal_of m' s' a' ≡ there b) × (s'.opened ≡ true → s'.table.room ≡ length a')
+  fetch_by : (b : Bool) → is_open s ≡ b → r ≡ session.fetch_answer s a m.coming → (passes s a ≡ false → NotFetched s s' a a') → (passes s a ≡ true → AfterFetch m.coming r m m' s s' a a')
+      → (r ≡ fetch_due (cond b (Some (pairs_of s.table)) None) (length a) m.coming) × (ideal_of m' s' a' ≡ there b) × (is_open s' ≡ true → s'.table.room ≡ length a')
   fetch_by false o e n w =
       let k = n (stopped m s a ready o) in (
         e ∙ unopened s (length a) (dues.fetched (pairs_of s.table) (length a) m.coming) o,
         ap (λ (x : Meaning). ideal_of x s' a') (same_host k.same) ∙ ap (λ (x : Session H). ideal_of m x a') k.same ∙ ap (ideal_of m s) k.same_arena,
-        λ p. ap (λ (x : Session H). x.table.room) k.same ∙ ready.room (ap (λ (x : Session H). x.opened) (sym k.same) ∙ p) ∙ sym long,
+        λ p. ap (λ (x : Session H). x.table.room) k.same ∙ ready.room (ap (λ (x : Session H). is_open x) (sym k.same) ∙ p) ∙ sym long,
       )
   fetch_by true o e n w =
       let due : r ≡ dues.fetched (pairs_of s.table) (length a) m.coming = e ∙ opened_past s (length a) (dues.fetched (pairs_of s.table) (length a) m.coming) o (same_length m s a ready o) in
@@ -196,17 +192,17 @@ module _ {H : Type 0} (m m' : Meaning) (s s' : Session H) (a a' : List ℕ) (lon
       (due, t.0 ∙ still, λ p. t.1 ∙ ready.room o ∙ sym long)
 
   -- from what a fetch ensures
-  pub fetch_opened : r ≡ session.fetch_answer s a m.coming → (passes s a ≡ false → NotFetched s s' a a') → (passes s a ≡ true → AfterFetch m.coming r m m' s s' a a') → s'.opened ≡ s.opened
-  fetch_opened e n w = sym (is_some s'.opened (pairs_of s'.table)) ∙ ap (λ (x : State). option_is_some x.bound) (fetch_by s.opened refl e n w).1 ∙ there_opened s.opened
+  pub fetch_opened : r ≡ session.fetch_answer s a m.coming → (passes s a ≡ false → NotFetched s s' a a') → (passes s a ≡ true → AfterFetch m.coming r m m' s s' a a') → is_open s' ≡ is_open s
+  fetch_opened e n w = sym (is_some (is_open s') (pairs_of s'.table)) ∙ ap (λ (x : State). option_is_some x.bound) (fetch_by (is_open s) refl e n w).1 ∙ there_opened (is_open s)
     where
-      there_opened : (b : Bool) → option_is_some (there b).bound ≡ s.opened
-      there_opened true = is_some s.opened (pairs_of s.table)
-      there_opened false = is_some s.opened (pairs_of s.table)
+      there_opened : (b : Bool) → option_is_some (there b).bound ≡ is_open s
+      there_opened true = is_some (is_open s) (pairs_of s.table)
+      there_opened false = is_some (is_open s) (pairs_of s.table)
 
   pub fetch_moved : r ≡ session.fetch_answer s a m.coming → (passes s a ≡ false → NotFetched s s' a a') → (passes s a ≡ true → AfterFetch m.coming r m m' s s' a a')
       → Moved (ideal_of m s a) fetch (fetch_answered r) m' s' a'
   fetch_moved e n w =
-      let f = fetch_by s.opened refl e n w in
+      let f = fetch_by (is_open s) refl e n w in
       record {
         says = fetch_says r ∙ ap fetch_said f.0;
         to = f.1;
@@ -221,13 +217,13 @@ module _ {H X : Type 0} (m : Meaning) (s : Session H) (a : List ℕ) (k : ℕ) (
   abbrev due : Bool → Result X Fault
   due b = dues.read_as reads k (read_due (cond b (Some (pairs_of s.table)) None) (shown_row m s) k)
 
-  read_by : (b : Bool) → s.opened ≡ b → r ≡ due b
+  read_by : (b : Bool) → is_open s ≡ b → r ≡ due b
   read_by true o = by_row ready.sound ready.holds (passed m s a ready o)
   read_by false o =
       exact
       ∙ ap (dues.read_as reads k)
-      (unopened s (length a) (cond (nat_lt k s.table.count) (cond s.shown (record_shown k (col s.table k) a) (Err (refused NoCurrentRow))) (Err (refused NoSuchColumn))) o)
+      (unopened s (length a) (cond (nat_lt k (count_of s.table)) (cond (is_shown s) (record_shown k (col s.table k) a) (Err (refused NoCurrentRow))) (Err (refused NoSuchColumn))) o)
 
   -- from what a typed reading ensures
   pub read_is : r ≡ dues.read_as reads k (read_due (ideal_of m s a).bound (ideal_of m s a).shown k)
-  read_is = read_by s.opened refl
+  read_is = read_by (is_open s) refl

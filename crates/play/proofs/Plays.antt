@@ -1,7 +1,7 @@
 -- Lists of calls that are answered one by one.
-use Rattle.std.proofs.Common.{◌≡◌, ℕ, ◌+◌, ◌<◌, ◌≤◌, List, [], ◌∷◌, ◌++◌, length, get_or, take, is_some, Some, None, Ok, Err, vec_items, Option, Result, Vec, sym, refl, ap, ◌∙◌, subst, arith}
+use Rattle.std.proofs.Common.{◌≡◌, ℕ, ◌+◌, ◌<◌, List, [], ◌∷◌, ◌++◌, length, get_or, take, is_some, Some, None, Ok, Err, vec_items, Option, Result, Vec, sym, refl, ap, ◌∙◌, subst, arith}
 use Rattle.std.specs.declared.alloc.Global.{Global}
-use Rattle.std.proofs.lemmas.List.{take_more, take_all, length_push, length-take-le}
+use Rattle.std.proofs.lemmas.List.{take_more, length_push, length-take-le}
 use Rattle.mysql.specs.declared.bind.Column.{Column}
 use Rattle.mysql.specs.declared.fault.Fault.{Fault}
 use Rattle.host.specs.Meanings.{Meaning}
@@ -14,7 +14,7 @@ use Rattle.play.specs.Machine.{State, start, opening_at, fetch_at, answer, after
 use Rattle.play.specs.Calls.{asked_of, said_of, history}
 use Rattle.play.specs.declared.steps.Player.{Player}
 use Rattle.play.specs.Players.{ideal, Playable, AnswersIf, Answers}
-use Rattle.play.specs.Plays.{Kept, AllIdeal, IdealTo, LawfulTo, AlikeTo}
+use Rattle.play.specs.Plays.{Kept, IdealTo, LawfulTo, AlikeTo}
 use Rattle.play.proofs.Runs.{run}
 use Rattle.play.proofs.Lawful.{lawful}
 use Rattle.play.proofs.Alikes.{alike}
@@ -68,10 +68,6 @@ pub record Along {H : Type 0} (means : H → Meaning) (x : State) (calls : List 
   pub ideally : Ideal x (history (take i calls) answers)
 
 module _ {H : Type 0} (means : H → Meaning) (x : State) (calls : List Call) where
-  -- no call is answered yet
-  pub along_none : (xs : List Answer) (p : Player H) → xs ≡ [] → Playable means p → Along means (ideal means p) calls 0 xs p
-  along_none xs p e playable = record { as_many = ap length e; playable = playable; stands = refl; ideally = tt }
-
   -- one more
   pub along_more : (i : ℕ) → i < length calls → (d : Call) (xs ys : List Answer) (p p' : Player H) (r : Answer) → ys ≡ xs ++ r ∷ [] → Answers means (asked_of (get_or calls i d)) r p p'
       → Along means x calls i xs p → Along means x calls (i + 1) ys p'
@@ -88,14 +84,6 @@ module _ {H : Type 0} (means : H → Meaning) (x : State) (calls : List Call) wh
         playable = record { tied = w.tied; ready = w.moved.ready };
         stands = w.moved.to ∙ ap (λ (y : State). after y (asked_of call)) so_far.stands ∙ sym (run_more x before entry) ∙ sym (ap (run x) grown);
         ideally = subst (Ideal x) (sym grown) (ideal_more x before entry so_far.ideally says);
-      }
-
-  -- all
-  pub all_along : (i : ℕ) (xs : List Answer) (p : Player H) → length calls ≤ i → i ≤ length calls → Along means x calls i xs p → AllIdeal x calls xs
-  all_along i xs p l g so_far =
-      record {
-        as_many = so_far.as_many ∙ omega arith;
-        ideal = subst (λ (cs : List Call). Ideal x (history cs xs)) (take_all i calls l) so_far.ideally;
       }
 
 -- the host's columns and their codes, while calls are made

@@ -11,6 +11,7 @@ use Rattle.play.specs.declared.steps.Player.{Player}
 use Rattle.play.specs.Histories.{Asked}
 use Rattle.play.specs.Rules.{read_due}
 use Rattle.play.specs.Machine.{State}
+use Rattle.session.specs.Sessions.{is_open}
 use Rattle.play.specs.Moves.{ideal_of, Ready, MovedIf}
 
 module _ {H : Type 0} (means : H → Meaning) where
@@ -20,12 +21,12 @@ module _ {H : Type 0} (means : H → Meaning) where
 
   -- it has a slip exactly where its session is opened, and its session is ready over its arena
   pub record Playable (p : Player H) : Type 0 where
-    pub tied : is_some p.slip ≡ p.session.opened
+    pub tied : is_some p.slip ≡ is_open p.session
     pub ready : Ready (means p.session.host) p.session p.arena.now
 
   -- a call was answered as the ideal session answers it, unless memory ran out
   pub record AnswersIf (asked : Asked) (r : Result Answer PlayError) (p p' : Player H) : Type 0 where
-    pub tied : is_some p'.slip ≡ p'.session.opened
+    pub tied : is_some p'.slip ≡ is_open p'.session
     pub moved : MovedIf (ideal p) asked r (means p'.session.host) p'.session p'.arena.now
 
   abbrev pub Answers : Asked → Answer → (p p' : Player H) → Type 0

@@ -20,7 +20,7 @@ use Rattle.session.specs.declared.state.Session.{Session}
 use Rattle.rows.specs.Bounds.{all_carried, row_need, first_loss}
 use Rattle.rows.specs.Dues.{row_fetched, fetched}
 use Rattle.rows.specs.Standing.{pairs_of}
-use Rattle.session.specs.Sessions.{Sound, passes, fetch_answer, AfterFetch, RowRefused, RowMet}
+use Rattle.session.specs.Sessions.{is_open, is_shown, Sound, passes, fetch_answer, AfterFetch, RowRefused, RowMet}
 use Rattle.rows.specs.Settling.{RowGot, row_answer, Shows, Refuses}
 use Rattle.session.specs.Settled.{SettledIn}
 use Rattle.session.proofs.Shows.{past, is_opened, is_as_long}
@@ -47,7 +47,7 @@ module _ {H : Type 0} (m : Meaning) (s : Session H) (sound : Sound m s) (a : Lis
   abbrev t : ColumnTable
   t = s.table
 
-  opened : s.opened ≡ true
+  opened : is_open s ≡ true
   opened = is_opened s a p
 
   long : length a ≡ t.room
@@ -74,7 +74,7 @@ module _ {H : Type 0} (m : Meaning) (s : Session H) (sound : Sound m s) (a : Lis
     failure_answer f error e q =
         answers (failure w.number ∷ w.rest) (Err f) (ap (λ (n : ℕ). Err (host_failed n)) (sym (q ∙ ap (λ (x : Meaning). x.error) w.after)) ∙ ap Err (sym e)) w.next
 
-    pub failure_after : (s' : Session H) (x : Result Fetch Fault) → s'.opened ≡ true → s'.shown ≡ false → s'.table ≡ t → AfterFetch m.coming x m m' s s' a a'
+    pub failure_after : (s' : Session H) (x : Result Fetch Fault) → is_open s' ≡ true → is_shown s' ≡ false → s'.table ≡ t → AfterFetch m.coming x m m' s s' a a'
     failure_after s' x o n e =
         subst (λ (es : List Event). AfterFetch es x m m' s s' a a') (sym w.next)
         (record {
@@ -115,7 +115,7 @@ module _ {H : Type 0} (m : Meaning) (s : Session H) (sound : Sound m s) (a : Lis
     due_is : (x : Result Fetch Fault) → row_answer w.fields t ≡ x → fetched (pairs_of t) (length a) (row w.fields ∷ w.rest) ≡ x
     due_is x e = ap (λ (n : ℕ). row_fetched (first_loss w.fields 0 (pairs_of t)) (ltb n (row_need w.fields 0 (pairs_of t)))) long ∙ e
 
-    module _ (s1 s' : Session H) (m'' : Meaning) (a'' : List ℕ) (e1 : s1.table ≡ t) (o1 : s1.opened ≡ true) where
+    module _ (s1 s' : Session H) (m'' : Meaning) (a'' : List ℕ) (e1 : s1.table ≡ t) (o1 : is_open s1 ≡ true) where
       pub row_answered : (x : Result Fetch Fault) → SettledIn m' w.fields s1 a' x m'' s' a'' → x ≡ fetch_answer s a m.coming
       row_answered (Ok x) z = answers (row w.fields ∷ w.rest) (Ok x) (due_is (Ok x) (ap (row_answer w.fields) (sym e1) ∙ z.1.settled.due ∙ ap Ok (sym z.0))) w.next
       row_answered (Err f) z = answers (row w.fields ∷ w.rest) (Err f) (due_is (Err f) (ap (row_answer w.fields) (sym e1) ∙ z.settled.due)) w.next

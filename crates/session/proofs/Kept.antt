@@ -8,17 +8,17 @@ use Rattle.rows.specs.declared.answers.Fetch.{Fetch}
 use Rattle.session.specs.declared.state.Session.{Session}
 use Rattle.rows.specs.Bounds.{all_carried, field_at}
 use Rattle.rows.specs.Standing.{pair_of, pairs_of, StandsWhole}
-use Rattle.session.specs.Sessions.{Sound, Holds, passes, host_after, AfterFetch}
+use Rattle.session.specs.Sessions.{is_open, is_shown, Sound, Holds, passes, host_after, AfterFetch}
 use Rattle.rows.proofs.Pairs.{not_both}
 use Rattle.session.proofs.Shows.{is_opened}
 
 module _ {H : Type 0} (m m' : Meaning) (s s' : Session H) (sound : Sound m s) (a : List ℕ) (p : passes s a ≡ true) where
-  opened : s.opened ≡ true
+  opened : is_open s ≡ true
   opened = is_opened s a p
 
   -- where the columns stay as they are bound, and the host is bound to the places
   kept_sound : m'.columns ≡ m.columns → m'.carries ≡ m.carries → m'.bound ≡ Some (binds s'.table) → count_of s'.table ≡ count_of s.table → pairs_of s'.table ≡ pairs_of s.table
-      → s'.opened ≡ true → (s'.shown ≡ true → m'.current ≡ None → ⊥) → Sound m' s'
+      → is_open s' ≡ true → (is_shown s' ≡ true → m'.current ≡ None → ⊥) → Sound m' s'
   kept_sound cs rs b n ps o some = record {
     places = λ _. b;
     as_many = λ _. n ∙ sound.as_many opened ∙ sym (ap length cs);
@@ -27,11 +27,11 @@ module _ {H : Type 0} (m m' : Meaning) (s s' : Session H) (sound : Sound m s) (a
     a_row = some;
   }
 
-  same_table : s'.table ≡ s.table → (rest : List Event) (error : ℕ) → m' ≡ host_after m rest None error → s'.opened ≡ true → s'.shown ≡ false → Sound m' s'
+  same_table : s'.table ≡ s.table → (rest : List Event) (error : ℕ) → m' ≡ host_after m rest None error → is_open s' ≡ true → is_shown s' ≡ false → Sound m' s'
   same_table e rest error h o no_row =
       kept_sound (ap (λ (x : Meaning). x.columns) h) (ap (λ (x : Meaning). x.carries) h)
       (ap (λ (x : Meaning). x.bound) h ∙ sound.places opened ∙ ap (λ (t : ColumnTable). Some (binds t)) (sym e))
-      (ap (λ (t : ColumnTable). count_of t) e) (ap pairs_of e) o (λ p. not_both s'.shown p no_row)
+      (ap (λ (t : ColumnTable). count_of t) e) (ap pairs_of e) o (λ p. not_both (is_shown s') p no_row)
 
   pub after_sound : (a' : List ℕ) (es : List Event) (x : Result Fetch Fault) → AfterFetch es x m m' s s' a a' → Sound m' s'
   after_sound a' [] x w = same_table w.table [] 0 w.host w.opened w.no_row
@@ -42,10 +42,10 @@ module _ {H : Type 0} (m m' : Meaning) (s s' : Session H) (sound : Sound m s) (a
   after_sound a' (row r ∷ rest) (Err f) w =
       kept_sound (ap (λ (z : Meaning). z.columns) w.host) (ap (λ (z : Meaning). z.carries) w.host)
       (ap (λ (z : Meaning). z.bound) w.host ∙ sound.places opened ∙ ap Some (sym w.places.binds_same))
-      w.places.count w.pairs w.opened (λ p. not_both s'.shown p w.no_row)
+      w.places.count w.pairs w.opened (λ p. not_both (is_shown s') p w.no_row)
 
 -- where no row is shown there is nothing to hold
-unshown : {H : Type 0} (m : Meaning) (s : Session H) (a : List ℕ) → s.shown ≡ false → Holds m s a
+unshown : {H : Type 0} (m : Meaning) (s : Session H) (a : List ℕ) → is_shown s ≡ false → Holds m s a
 unshown m s a e = record { whole = λ r q k l. let z : None ≡ Some r = sym (ap (λ (b : Bool). cond b m.current None) e) ∙ q in cc }
 
 pub after_holds : {H : Type 0} (m m' : Meaning) (s s' : Session H) (a a' : List ℕ) (es : List Event) (x : Result Fetch Fault) → AfterFetch es x m m' s s' a a' → Holds m' s' a'

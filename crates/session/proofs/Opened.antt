@@ -16,7 +16,7 @@ use Rattle.rows.specs.Bounds.{bound, all_carried, field_at}
 use Rattle.session.proofs.Binds.{bound_long}
 use Rattle.rows.specs.Dues.{most_bytes, placed, opening}
 use Rattle.rows.specs.Standing.{pair_of, pairs_of, StandsWhole}
-use Rattle.session.specs.Sessions.{Sound, Holds, shown_row, Opened, NotOpened, AfterOpening}
+use Rattle.session.specs.Sessions.{is_shown, Sound, Holds, shown_row, Opened, NotOpened, AfterOpening}
 
 module _ {H : Type 0} (m m' : Meaning) (s s' : Session H) (a a' : List ℕ) where
   refused_sound : (f : Fault) → NotOpened f m m' s s' a a' → Sound m s → Sound m' s'
@@ -34,7 +34,7 @@ module _ {H : Type 0} (m m' : Meaning) (s s' : Session H) (a a' : List ℕ) wher
   refused_holds : (f : Fault) → NotOpened f m m' s s' a a' → Holds m s a → Holds m' s' a'
   refused_holds f n h = record {
     whole = λ r e k l.
-        let same : shown_row m' s' ≡ shown_row m s = ap (λ (b : Bool). cond b m'.current None) n.shown ∙ ap (λ (x : Meaning). cond s.shown x.current None) n.host in
+        let same : shown_row m' s' ≡ shown_row m s = ap (λ (b : Bool). cond b m'.current None) n.shown ∙ ap (λ (x : Meaning). cond (is_shown s) x.current None) n.host in
         subst (λ (b : List ℕ). StandsWhole (field_at r k (pair_of (col s'.table k))) (col s'.table k) b) (sym n.same_arena)
         (subst (λ (t : ColumnTable). k < count_of t → StandsWhole (field_at r k (pair_of (col t k))) (col t k) a) (sym n.table) (h.whole r (sym same ∙ e) k) l);
   }
@@ -45,7 +45,7 @@ module _ {H : Type 0} (m m' : Meaning) (s s' : Session H) (a a' : List ℕ) wher
     as_many = λ _. o.table.as_many ∙ l ∙ ap (λ (x : Meaning). length x.columns) (sym o.host);
     carried = λ _. ap (λ (x : Meaning). all_carried x.carries 0 (pairs_of s'.table)) o.host ∙ ap (all_carried m.carries 0) o.bound_with ∙ c;
     opened_first = λ _. o.opened;
-    a_row = λ p e. not_both s'.shown p o.no_row;
+    a_row = λ p e. not_both (is_shown s') p o.no_row;
   }
 
   granted_holds : (pairs : List Column) → Opened m m' s s' pairs a a' → Holds m' s' a'

@@ -23,7 +23,7 @@ use Rattle.readings.specs.Nulls.{nullable}
 use Rattle.rows.specs.Bounds.{field_at}
 use Rattle.rows.specs.Dues.{faulted, read_as, typed, field_shown, row_shown, read}
 use Rattle.rows.specs.Standing.{pair_of, pairs_of, StandsWhole}
-use Rattle.session.specs.Sessions.{Sound, Holds, shown_row, passes, past_checks, record_shown, reading, viewed}
+use Rattle.session.specs.Sessions.{is_open, is_shown, Sound, Holds, shown_row, passes, past_checks, record_shown, reading, viewed}
 
 -- a fault that names a column
 pub fault_at : {X : Type 0} (k : ℕ) (P : Fault → Fault → Type 0) → ((e f : Fault) → P e f → f ≡ at_column e k) → (r q : Result X Fault) → MatchResult r (λ x. q ≡ Ok x) (λ e. IsErrAnd q (P e)) → q ≡ faulted k r
@@ -71,28 +71,28 @@ not_both_passed false same x f e = refl
 -- the two checks
 module _ {H X : Type 0} (s : Session H) (a : List ℕ) (x y : X) where
   pub passed : past_checks s (length a) (Ok x) ≡ Ok y → passes s a ≡ true
-  passed e = both_passed s.opened (eqb (length a) s.table.room) x y e
+  passed e = both_passed (is_open s) (eqb (length a) s.table.room) x y e
 
   pub not_passed : (f : Fault) → past_checks s (length a) (Ok x) ≡ Err f → passes s a ≡ false
-  not_passed f e = not_both_passed s.opened (eqb (length a) s.table.room) x f e
+  not_passed f e = not_both_passed (is_open s) (eqb (length a) s.table.room) x f e
 
 module _ {H : Type 0} (s : Session H) (a : List ℕ) (p : passes s a ≡ true) where
-  pub is_opened : s.opened ≡ true
-  is_opened = (and_parts s.opened (eqb (length a) s.table.room) p).0
+  pub is_opened : is_open s ≡ true
+  is_opened = (and_parts (is_open s) (eqb (length a) s.table.room) p).0
 
   pub is_as_long : length a ≡ s.table.room
-  is_as_long = eqb-true (length a) s.table.room (and_parts s.opened (eqb (length a) s.table.room) p).1
+  is_as_long = eqb-true (length a) s.table.room (and_parts (is_open s) (eqb (length a) s.table.room) p).1
 
   -- checks that pass leave what comes after them
   pub past : {X : Type 0} (x : Result X Fault) → past_checks s (length a) x ≡ x
   past x =
-      let q = and_parts s.opened (eqb (length a) s.table.room) p in
+      let q = and_parts (is_open s) (eqb (length a) s.table.room) p in
       ap (λ (b : Bool). cond b (cond (eqb (length a) s.table.room) x (Err (refused ArenaLength))) (Err (refused Unopened))) q.0
       ∙ ap (λ (b : Bool). cond b x (Err (refused ArenaLength))) q.1
 
 -- bytes that are read where a row is shown and the column is not null
 module _ {H : Type 0} (s : Session H) (a : List ℕ) (k : ℕ) where
-  pub reads_bytes : (tpe : MysqlType) (bytes : List ℕ) → passes s a ≡ true → k < count_of s.table → s.shown ≡ true
+  pub reads_bytes : (tpe : MysqlType) (bytes : List ℕ) → passes s a ≡ true → k < count_of s.table → is_shown s ≡ true
       → (col s.table k).is_null ≡ false → type_of (col s.table k).code (col s.table k).flags ≡ Ok tpe
       → bytes ≡ take (bytes_of (col s.table k)) (drop (start s.table k) a)
       → Ok (Some (record { tpe = tpe; bytes = bytes })) ≡ reading s a k
@@ -100,8 +100,8 @@ module _ {H : Type 0} (s : Session H) (a : List ℕ) (k : ℕ) where
       let c = col s.table k in
       let there = take (bytes_of c) (drop c.start a) in
       sym (
-      past s a p (cond (ltb k (count_of s.table)) (cond s.shown (record_shown k c a) (Err (refused NoCurrentRow))) (Err (refused NoSuchColumn)))
-      ∙ ap (λ (z : Bool). cond z (cond s.shown (record_shown k c a) (Err (refused NoCurrentRow))) (Err (refused NoSuchColumn))) (lt-ltb k (count_of s.table) l)
+      past s a p (cond (ltb k (count_of s.table)) (cond (is_shown s) (record_shown k c a) (Err (refused NoCurrentRow))) (Err (refused NoSuchColumn)))
+      ∙ ap (λ (z : Bool). cond z (cond (is_shown s) (record_shown k c a) (Err (refused NoCurrentRow))) (Err (refused NoSuchColumn))) (lt-ltb k (count_of s.table) l)
       ∙ ap (λ (z : Bool). cond z (record_shown k c a) (Err (refused NoCurrentRow))) h
       ∙ ap (λ (z : Bool). cond z (Ok None) (typed k there (type_of c.code c.flags))) n
       ∙ ap (typed k there) t
@@ -129,7 +129,7 @@ module _ {H : Type 0} (m : Meaning) (s : Session H) (a : List ℕ) (k : ℕ) (so
   long = is_as_long s a p
 
   -- by the row that is shown
-  by_row : k < count_of t → (o : Option Row) (b : Bool) → s.shown ≡ b → shown_row m s ≡ o → cond b m.current None ≡ o
+  by_row : k < count_of t → (o : Option Row) (b : Bool) → is_shown s ≡ b → shown_row m s ≡ o → cond b m.current None ≡ o
       → cond b (record_shown k (col t k) a) (Err (refused NoCurrentRow)) ≡ row_shown (pairs_of t) o k
   by_row l None true hs e q = absurd (sound.a_row hs q)
   by_row l None false hs e q = refl
@@ -140,12 +140,12 @@ module _ {H : Type 0} (m : Meaning) (s : Session H) (a : List ℕ) (k : ℕ) (so
       whole_shown k c (field_at r k (pair_of c)) a i (holds.whole r e k l)
       ∙ ap (λ (p : Column). field_shown k p (field_at r k p)) (sym (pair_at t k l))
 
-  by_column : (b : Bool) → ltb k (count_of t) ≡ b → cond b (cond s.shown (record_shown k (col t k) a) (Err (refused NoCurrentRow))) (Err (refused NoSuchColumn)) ≡ cond b (row_shown (pairs_of t) (shown_row m s) k) (Err (refused NoSuchColumn))
-  by_column true e = by_row (ltb-true k (count_of t) e) (shown_row m s) s.shown refl refl refl
+  by_column : (b : Bool) → ltb k (count_of t) ≡ b → cond b (cond (is_shown s) (record_shown k (col t k) a) (Err (refused NoCurrentRow))) (Err (refused NoSuchColumn)) ≡ cond b (row_shown (pairs_of t) (shown_row m s) k) (Err (refused NoSuchColumn))
+  by_column true e = by_row (ltb-true k (count_of t) e) (shown_row m s) (is_shown s) refl refl refl
   by_column false e = refl
 
   pub reads_row : reading s a k ≡ read (pairs_of t) (shown_row m s) k
   reads_row =
-      past s a p (cond (ltb k (count_of t)) (cond s.shown (record_shown k (col t k) a) (Err (refused NoCurrentRow))) (Err (refused NoSuchColumn)))
+      past s a p (cond (ltb k (count_of t)) (cond (is_shown s) (record_shown k (col t k) a) (Err (refused NoCurrentRow))) (Err (refused NoSuchColumn)))
       ∙ by_column (ltb k (count_of t)) refl
       ∙ ap (λ (n : ℕ). cond (ltb k n) (row_shown (pairs_of t) (shown_row m s) k) (Err (refused NoSuchColumn))) (sym (pairs_length t))

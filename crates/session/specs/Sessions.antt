@@ -18,23 +18,31 @@ use Rattle.rows.specs.declared.answers.Fetch.{Fetch}
 use Rattle.rows.specs.Standing.{pair_of, pairs_of, report_of, StandsWhole, Regrown}
 use Rattle.session.specs.declared.answers.Slip.{Slip}
 use Rattle.session.specs.declared.state.Session.{Session}
+use Rattle.session.specs.Stages.{opened, shown}
 use Rattle.session.specs.declared.state.Value.{Value}
 use Rattle.rows.specs.Bounds.{all_carried, field_at}
 use Rattle.rows.specs.Dues.{Shown, typed, placed, opening, fetched, read}
 
 module _ {H : Type 0} where
+  -- an opening was granted; and the last fetch showed a row
+  abbrev pub is_open : Session H → Bool
+  is_open s = opened s.stage
+
+  abbrev pub is_shown : Session H → Bool
+  is_shown s = shown s.stage
+
   -- While a session is opened, its host is bound to exactly the table's places, at codes that it carries. Where a row is shown, it is
   -- the host's current row.
   pub record Sound (m : Meaning) (s : Session H) : Type 0 where
-    pub places : s.opened ≡ true → m.bound ≡ Some (binds s.table)
-    pub as_many : s.opened ≡ true → count_of s.table ≡ length m.columns
-    pub carried : s.opened ≡ true → all_carried m.carries 0 (pairs_of s.table) ≡ true
-    pub opened_first : s.shown ≡ true → s.opened ≡ true
-    pub a_row : s.shown ≡ true → m.current ≢ None
+    pub places : is_open s ≡ true → m.bound ≡ Some (binds s.table)
+    pub as_many : is_open s ≡ true → count_of s.table ≡ length m.columns
+    pub carried : is_open s ≡ true → all_carried m.carries 0 (pairs_of s.table) ≡ true
+    pub opened_first : is_shown s ≡ true → is_open s ≡ true
+    pub a_row : is_shown s ≡ true → m.current ≢ None
 
   -- the row that a session shows
   abbrev pub shown_row : Meaning → Session H → Option Row
-  shown_row m s = cond s.shown m.current None
+  shown_row m s = cond (is_shown s) m.current None
 
   -- the row that is shown stands whole in the arena
   pub record Holds (m : Meaning) (s : Session H) (a : List ℕ) : Type 0 where
@@ -70,15 +78,15 @@ module _ {H : Type 0} where
     pub table : OpeningTable pairs (length a) s'.table
     pub bound_with : pairs_of s'.table ≡ pairs
     pub host : m' ≡ record { columns = m.columns; carries = m.carries; coming = m.coming; current = m.current; bound = Some (binds s'.table); error = 0 }
-    pub opened : s'.opened ≡ true
-    pub no_row : s'.shown ≡ false
+    pub opened : is_open s' ≡ true
+    pub no_row : is_shown s' ≡ false
     pub zeroed : (p : ℕ) → p < end s'.table → slice_index a' p ≡ 0
     pub others : Beyond (end s'.table) a a'
 
   -- refused: the arena and the session are as they were; where the host refused the bind, its error number is all that changes
   pub record NotOpened (f : Fault) (m m' : Meaning) (s s' : Session H) (a a' : List ℕ) : Type 0 where
-    pub opened : s'.opened ≡ s.opened
-    pub shown : s'.shown ≡ s.shown
+    pub opened : is_open s' ≡ is_open s
+    pub shown : is_shown s' ≡ is_shown s
     pub table : s'.table ≡ s.table
     pub host : m' ≡ with_error (error_after f m.error) m
     pub same_arena : a' ≡ a
@@ -94,11 +102,11 @@ module _ {H : Type 0} where
 module _ {H : Type 0} where
   -- the two checks of a fetch: 1 where the session is not opened, 3 where the arena has another length than at the opening
   abbrev pub passes : Session H → List ℕ → Bool
-  passes s a = s.opened && length a == s.table.room
+  passes s a = is_open s && length a == s.table.room
 
   -- x where the two checks pass
   abbrev pub past_checks : {X : Type 0} → Session H → (arena : ℕ) → Result X Fault → Result X Fault
-  past_checks s arena x = cond s.opened (cond (arena == s.table.room) x (Err (refused ArenaLength))) (Err (refused Unopened))
+  past_checks s arena x = cond (is_open s) (cond (arena == s.table.room) x (Err (refused ArenaLength))) (Err (refused Unopened))
 
   abbrev pub fetch_answer : Session H → List ℕ → List Event → Result Fetch Fault
   fetch_answer s a coming = past_checks s (length a) (fetched (pairs_of s.table) (length a) coming)
@@ -111,24 +119,24 @@ module _ {H : Type 0} where
   -- no event was left: nothing is written
   pub record EndMet (m m' : Meaning) (s s' : Session H) (a a' : List ℕ) : Type 0 where
     pub host : m' ≡ host_after m [] None 0
-    pub opened : s'.opened ≡ true
-    pub no_row : s'.shown ≡ false
+    pub opened : is_open s' ≡ true
+    pub no_row : is_shown s' ≡ false
     pub table : s'.table ≡ s.table
     pub same_arena : a' ≡ a
 
   -- a failure was next. Free: the bytes of the places.
   pub record FailureMet (n : ℕ) (rest : List Event) (m m' : Meaning) (s s' : Session H) (a a' : List ℕ) : Type 0 where
     pub host : m' ≡ host_after m rest None n
-    pub opened : s'.opened ≡ true
-    pub no_row : s'.shown ≡ false
+    pub opened : is_open s' ≡ true
+    pub no_row : is_shown s' ≡ false
     pub table : s'.table ≡ s.table
     pub outside : Beyond (end s.table) a a'
 
   -- a row was next, and is refused: the places and the bind list stay. Free: the bytes of the places, and the length of a null.
   pub record RowRefused (r : Row) (rest : List Event) (m m' : Meaning) (s s' : Session H) (a a' : List ℕ) : Type 0 where
     pub host : m' ≡ host_after m rest (Some r) 0
-    pub opened : s'.opened ≡ true
-    pub no_row : s'.shown ≡ false
+    pub opened : is_open s' ≡ true
+    pub no_row : is_shown s' ≡ false
     pub places : SamePlaces s.table s'.table
     pub pairs : pairs_of s'.table ≡ pairs_of s.table
     pub reported : (k : ℕ) → k < count_of s.table → Reported (field_at r k (pair_of (col s.table k))) (col s.table k).capacity (report_of (col s'.table k))
@@ -138,8 +146,8 @@ module _ {H : Type 0} where
   -- new places, and the length of a null.
   pub record RowMet (r : Row) (rest : List Event) (m m' : Meaning) (s s' : Session H) (a a' : List ℕ) : Type 0 where
     pub host : m' ≡ record { columns = m.columns; carries = m.carries; coming = rest; current = Some r; bound = Some (binds s'.table); error = 0 }
-    pub opened : s'.opened ≡ true
-    pub shown : s'.shown ≡ true
+    pub opened : is_open s' ≡ true
+    pub shown : is_shown s' ≡ true
     pub table : Regrown r s.table s'.table
     pub whole : (k : ℕ) → k < count_of s.table → StandsWhole (field_at r k (pair_of (col s'.table k))) (col s'.table k) a'
     pub outside : (p : ℕ) → end s.table ≤ p → end s'.table ≤ p → slice_index a' p ≡ slice_index a p
@@ -167,7 +175,7 @@ module _ {H : Type 0} where
   abbrev pub reading : Session H → List ℕ → ℕ → Result (Option Shown) Fault
   reading s a k =
       past_checks s (length a)
-      (cond (nat_lt k (count_of s.table)) (cond s.shown (record_shown k (col s.table k) a) (Err (refused NoCurrentRow))) (Err (refused NoSuchColumn)))
+      (cond (nat_lt k (count_of s.table)) (cond (is_shown s) (record_shown k (col s.table k) a) (Err (refused NoCurrentRow))) (Err (refused NoSuchColumn)))
 
 -- what a value stands for
 abbrev pub viewed : Option Value → Option Shown
@@ -187,7 +195,7 @@ module _ {H : Type 0} (means : H → Meaning) where
   HoldsRow s a = Holds (means s.host) s a
 
   abbrev pub Opens : Result Slip Fault → List (Option MysqlType) → (s s' : Session H) (a a' : List ℕ) → Type 0
-  Opens r wanted s s' a a' = let m = means s.host in AfterOpening r (opening s.opened (length a) m.carries wanted m.columns) m (means s'.host) s s' a a'
+  Opens r wanted s s' a a' = let m = means s.host in AfterOpening r (opening (is_open s) (length a) m.carries wanted m.columns) m (means s'.host) s s' a a'
 
   abbrev pub Fetches : Result Fetch Fault → (s s' : Session H) (a a' : List ℕ) → Type 0
   Fetches r s s' a a' = AfterFetch (means s.host).coming r (means s.host) (means s'.host) s s' a a'

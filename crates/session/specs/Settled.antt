@@ -6,17 +6,18 @@ use Rattle.host.specs.Meanings.{Row, Meaning}
 use Rattle.rows.specs.declared.answers.Fetch.{Fetch}
 use Rattle.rows.specs.declared.answers.Fetch.TheVariants as fetch
 use Rattle.rows.specs.Settling.{Shows, Refuses}
+use Rattle.session.specs.Sessions.{is_open, is_shown}
 use Rattle.session.specs.declared.state.Session.{Session}
 
 module _ {H : Type 0} where
   pub record ShowsIn (m : Meaning) (r : Row) (s : Session H) (a : List ℕ) (m' : Meaning) (s' : Session H) (a' : List ℕ) : Type 0 where
-    pub opened : s'.opened ≡ s.opened
-    pub shown : s'.shown ≡ true
+    pub opened : is_open s' ≡ is_open s
+    pub shown : is_shown s' ≡ true
     pub settled : Shows m r s.table a m' s'.table a'
 
   pub record RefusesIn (m : Meaning) (r : Row) (s : Session H) (a : List ℕ) (f : Fault) (m' : Meaning) (s' : Session H) (a' : List ℕ) : Type 0 where
-    pub opened : s'.opened ≡ s.opened
-    pub no_row : s'.shown ≡ false
+    pub opened : is_open s' ≡ is_open s
+    pub no_row : is_shown s' ≡ false
     pub settled : Refuses m r s.table a f m' s'.table a'
 
   abbrev pub SettledIn : Meaning → Row → Session H → List ℕ → Result Fetch Fault → Meaning → Session H → List ℕ → Type 0

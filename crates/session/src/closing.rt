@@ -2,10 +2,10 @@
 ghost use Rattle.std.specs.Prelude.{◌≡◌, ◌<◌, ◌≤◌, true, false, if◌then◌else◌, MatchOption};
 ghost use Rattle.host.specs.Calls.{freed};
 ghost use Rattle.layout.specs.Tables.{count_of, col};
-ghost use Rattle.session.specs.Sessions.{Sound};
+ghost use Rattle.session.specs.Sessions.{is_open, is_shown, Sound};
 
 use crate::answers::Slip;
-use crate::state::Session;
+use crate::state::{Session, Stage};
 use host::Host;
 use layout::{ColumnRecord, ColumnTable};
 
@@ -13,15 +13,14 @@ impl<H: Host> Session<H> {
     // A session over a host, not opened yet. The host may be in any state.
     pub fn new(host: H) -> Session<H>
         ensures host { result.host ≡ host }
-        ensures unopened { result.opened ≡ false }
-        ensures no_row { result.shown ≡ false }
+        ensures unopened { is_open result ≡ false }
+        ensures no_row { is_shown result ≡ false }
         ensures sound { Sound (H.Host.meaning host) result }
     {
         Session {
             host,
             table: ColumnTable::new(),
-            opened: false,
-            shown: false,
+            stage: Stage::Unopened,
         }
     }
 
@@ -33,8 +32,7 @@ impl<H: Host> Session<H> {
         let Session {
             mut host,
             table: _,
-            opened: _,
-            shown: _,
+            stage: _,
         } = self;
         match slip {
             Some(Slip { mark: _ }) => {}
@@ -46,23 +44,34 @@ impl<H: Host> Session<H> {
 
     // Whether an opening was granted.
     pub fn is_opened(&self) -> bool
-        ensures { result ≡ self.now.opened }
+        ensures { result ≡ is_open self.now }
     {
-        self.opened
+        matches!(self.stage, Stage::Opened | Stage::Shown)
+    }
+
+    // Whether the last fetch showed a row.
+    pub(crate) fn is_shown(&self) -> bool
+        ensures { result ≡ is_shown self.now }
+    {
+        matches!(self.stage, Stage::Shown)
     }
 
     // How many columns are bound: none before an opening was granted.
     pub fn column_count(&self) -> usize
-        ensures { result ≡ (if self.now.opened then count_of self.now.table else 0) }
+        ensures { result ≡ (if is_open self.now then count_of self.now.table else 0) }
     {
-        if self.opened { self.table.count() } else { 0 }
+        if self.is_opened() {
+            self.table.count()
+        } else {
+            0
+        }
     }
 
     // What is known of a bound column.
     pub fn column(&self, i: usize) -> Option<ColumnRecord>
-        ensures { MatchOption result (self.now.opened ≡ true → count_of self.now.table ≤ i) (λ c. (self.now.opened ≡ true) × (i < count_of self.now.table) × (c ≡ col self.now.table i)) }
+        ensures { MatchOption result (is_open self.now ≡ true → count_of self.now.table ≤ i) (λ c. (is_open self.now ≡ true) × (i < count_of self.now.table) × (c ≡ col self.now.table i)) }
     {
-        if self.opened {
+        if self.is_opened() {
             self.table.column(i)
         } else {
             None

@@ -5,7 +5,7 @@ ghost use Rattle.rows.specs.Settling.{RowGot};
 ghost use Rattle.session.specs.Settled.{SettledIn};
 ghost use Rattle.session.specs.Sessions.{IsSound, HoldsRow, passes, fetch_due, NotFetched, Fetches};
 
-use crate::state::Session;
+use crate::state::{Session, Stage};
 use host::{Fetched, Host, Report};
 use mysql::Fault;
 use rows::{Fetch, populate_dynamic_buffers};
@@ -29,7 +29,7 @@ impl<H: Host> Session<H> {
         ensures answer { IsSound H.Host.meaning self.old → result ≡ fetch_due H.Host.meaning self.old arena.old }
         ensures after { IsSound H.Host.meaning self.old → Fetches H.Host.meaning result self.old self.new arena.old arena.new }
     {
-        self.shown = false;
+        self.stage = Stage::Opened;
         let mut reports = [Report::default(); 64];
         let reports = &mut reports[..self.table.count()];
         match self.host.fetch(arena, reports) {
@@ -41,11 +41,11 @@ impl<H: Host> Session<H> {
 
     // Shows the row that the host wrote, unless it is refused.
     fn settle(&mut self, arena: &mut [u8], reports: &[Report]) -> Result<Fetch, Fault>
-        requires { self.old.shown ≡ false }
+        requires { self.old.stage ≡ Stage.Opened }
         ensures { (row : Row) → RowGot (H.Host.meaning self.old.host) row self.old.table reports.now arena.old → SettledIn (H.Host.meaning self.old.host) row self.old arena.old result (H.Host.meaning self.new.host) self.new arena.new }
     {
         populate_dynamic_buffers(&mut self.host, &mut self.table, arena, reports)?;
-        self.shown = true;
+        self.stage = Stage::Shown;
         Ok(Fetch::Row)
     }
 }

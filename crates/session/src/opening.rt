@@ -3,10 +3,10 @@ ghost use Rattle.std.specs.Prelude.{◌≡◌, ◌≤◌, false, length, slice_i
 ghost use Rattle.mysql.specs.Taken.{taken_pair};
 ghost use Rattle.host.specs.Meanings.{no_column};
 ghost use Rattle.rows.specs.Bounds.{wanted_of, bound};
-ghost use Rattle.session.specs.Sessions.{IsSound, HoldsRow, PlacedAs, Opens};
+ghost use Rattle.session.specs.Sessions.{is_open, IsSound, HoldsRow, PlacedAs, Opens};
 
 use crate::answers::Slip;
-use crate::state::Session;
+use crate::state::{Session, Stage};
 use arrayvec::ArrayVec;
 use host::{Host, bind_all};
 use layout::{ColumnTable, MOST_BYTES};
@@ -59,7 +59,7 @@ impl<H: Host> Session<H> {
         ensures sound { IsSound H.Host.meaning self.old → IsSound H.Host.meaning self.new }
         ensures holds { HoldsRow H.Host.meaning self.old arena.old → HoldsRow H.Host.meaning self.new arena.new }
     {
-        if self.opened {
+        if self.is_opened() {
             return Err(Fault::new(Refusal::AlreadyOpened));
         }
         if arena.len() > MOST_BYTES {
@@ -70,15 +70,14 @@ impl<H: Host> Session<H> {
 
     // Binds the columns of a session that is not opened yet.
     fn bind_to(&mut self, arena: &mut [u8], wanted: &[Option<MysqlType>]) -> Result<Slip, Fault>
-        requires unopened { self.old.opened ≡ false }
+        requires unopened { is_open self.old ≡ false }
         requires short { length arena.old ≤ 65536 }
         ensures { Opens H.Host.meaning result wanted.now self.old self.new arena.old arena.new }
     {
         let pairs = bound_columns(&self.host, wanted)?;
         let table = place_columns(&mut self.host, &pairs, arena)?;
-        self.shown = false;
         self.table = table;
-        self.opened = true;
+        self.stage = Stage::Opened;
         Ok(Slip { mark: () })
     }
 }

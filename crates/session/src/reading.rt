@@ -13,7 +13,7 @@ impl<H: Host> Session<H> {
     pub(crate) fn check(&self, arena: usize) -> Result<(), Fault>
         ensures { result ≡ past_checks self.now arena (Ok tt) }
     {
-        if !self.opened {
+        if !self.is_opened() {
             return Err(Fault::new(Refusal::Unopened));
         }
         if arena != self.table.room {
@@ -47,7 +47,7 @@ impl<H: Host> Session<H> {
         let Some(record) = self.table.column(column) else {
             return Err(Fault::new(Refusal::NoSuchColumn));
         };
-        if !self.shown {
+        if !self.is_shown() {
             return Err(Fault::new(Refusal::NoCurrentRow));
         }
         if record.is_null {
@@ -60,7 +60,7 @@ impl<H: Host> Session<H> {
         let value = MysqlValue::new(&arena[start..end], tpe);
         Ok(Some(Value {
             value,
-            of: &self.shown,
+            of: &self.stage,
         }))
     }
 

@@ -1,6 +1,7 @@
 use Rattle.std.proofs.Common.{◌≡◌, length, Err, sym, ◌∙◌, rules}
 use Rattle.rows.specs.Dues as dues
 use Rattle.play.proofs.Moves.{opening_moved, opens_not}
+use Rattle.session.specs.Sessions.{is_open}
 use Rattle.play.proofs.steps.Player.open.Goals as goal
 
 pub returns-in-Err : goal.returns-in-Err
@@ -13,6 +14,6 @@ returns-in-Err g c =
     let ready = c.requires.ready in
     let w = c.in-Err.ensures in
     record {
-      tied = c.requires.tied ∙ sym (opens_not m m' s s' a a' c.in-Err.fault (dues.opening s.opened (length a) m.carries wanted m.columns) w.after);
+      tied = c.requires.tied ∙ sym (opens_not m m' s s' a a' c.in-Err.fault (dues.opening (is_open s) (length a) m.carries wanted m.columns) w.after);
       moved = opening_moved m m' s s' a a' wanted long ready (w.sound ready.sound) (w.holds ready.holds) (Err c.in-Err.fault) w.after;
     }

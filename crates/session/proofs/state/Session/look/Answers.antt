@@ -15,13 +15,13 @@ read_inside t k c l e fit n = subst (λ (z : ColumnRecord). z.is_null ≡ false 
 pub overflow_add-end : goal.overflow_add-end
 overflow_add-end g c =
     let s = c.args.self.now in let k = c.args.column in
-    let h = read_inside s.table k c.in-Some.record c.in-Some.ensures.0 c.in-Some.ensures.1 (s.fit c.if-not-self.false k c.in-Some.ensures.0) c.if-record.false in
+    let h = read_inside s.table k c.in-Some.record c.in-Some.ensures.0 c.in-Some.ensures.1 (s.fit (sym c.is_shown.ensures ∙ c.if-not-is_shown.false) k c.in-Some.ensures.0) c.if-record.false in
     search rules
 
 pub slice_bounds-new-end : goal.slice_bounds-new-end
 slice_bounds-new-end g c =
     let s = c.args.self.now in let k = c.args.column in
-    let h = read_inside s.table k c.in-Some.record c.in-Some.ensures.0 c.in-Some.ensures.1 (s.fit c.if-not-self.false k c.in-Some.ensures.0) c.if-record.false in
+    let h = read_inside s.table k c.in-Some.record c.in-Some.ensures.0 c.in-Some.ensures.1 (s.fit (sym c.is_shown.ensures ∙ c.if-not-is_shown.false) k c.in-Some.ensures.0) c.if-record.false in
     let w = is_as_long s c.args.arena.now c.requires in
     search rules
 
@@ -36,5 +36,5 @@ returns g c =
     let there : c.new-value.result.raw.now ≡ take (bytes_of (col s.table k)) (drop (col s.table k).start a) =
     c.new-value.ensures.raw ∙ ap (λ (z : ℕ). take z (drop d.start a)) n ∙ ap (λ (z : ColumnRecord). take (bytes_of z) (drop z.start a)) is in
     ap (λ (t : MysqlType). Ok (Some (record { tpe = t; bytes = c.new-value.result.raw.now }))) c.new-value.ensures.tpe
-    ∙ reads_bytes s a k c.in_ok-tpe.tpe c.new-value.result.raw.now c.requires c.in-Some.ensures.0 c.if-not-self.false null
+    ∙ reads_bytes s a k c.in_ok-tpe.tpe c.new-value.result.raw.now c.requires c.in-Some.ensures.0 (sym c.is_shown.ensures ∙ c.if-not-is_shown.false) null
     (sym (ap (λ (z : ColumnRecord). type_of z.code z.flags) is) ∙ sym c.try_from.ensures ∙ kind) there

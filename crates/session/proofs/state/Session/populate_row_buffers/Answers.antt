@@ -1,5 +1,4 @@
 use Rattle.std.proofs.Common.{◌≡◌, length, refl, rules}
-use Rattle.session.proofs.Shows.{is_opened}
 use Rattle.session.proofs.Fetches.{failure_came, failure_answer, failure_after, row_came, row_got, row_answered, row_after}
 use Rattle.session.proofs.state.Session.populate_row_buffers.Goals as goal
 
@@ -15,7 +14,7 @@ returns-in-Failed g c =
           failure_answer m s sound a p m' _ c.fetch.new.reports a' w c.host.result c.error_number.result c.host.ensures c.error_number.ensures;
       after = λ sound.
           let w = failure_came m s sound a p m' _ c.fetch.new.reports a' (search rules) c.in-Failed.ensures in
-          failure_after m s sound a p m' _ c.fetch.new.reports a' w _ _ (is_opened s a p) refl refl;
+          failure_after m s sound a p m' _ c.fetch.new.reports a' w _ _ refl refl refl;
     }
 
 pub returns-in-Row : goal.returns-in-Row
@@ -33,8 +32,8 @@ returns-in-Row g c =
     record {
       answer = λ sound.
           let got = row_got m s sound a p came.0 m' _ rs' a' w formed (search rules) same in
-          row_answered m s sound a p came.0 m' _ rs' a' w formed (search rules) same _ s'' m'' c.settle.new.arena refl (is_opened s a p) c.settle.result (c.settle.ensures w.fields got);
+          row_answered m s sound a p came.0 m' _ rs' a' w formed (search rules) same _ s'' m'' c.settle.new.arena refl refl c.settle.result (c.settle.ensures w.fields got);
       after = λ sound.
           let got = row_got m s sound a p came.0 m' _ rs' a' w formed (search rules) same in
-          row_after m s sound a p came.0 m' _ rs' a' w formed (search rules) same _ s'' m'' c.settle.new.arena refl (is_opened s a p) c.settle.result (c.settle.ensures w.fields got);
+          row_after m s sound a p came.0 m' _ rs' a' w formed (search rules) same _ s'' m'' c.settle.new.arena refl refl c.settle.result (c.settle.ensures w.fields got);
     }
