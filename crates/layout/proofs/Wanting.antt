@@ -102,12 +102,12 @@ over_wanted false c o = let l = o.longer in rw (o.variable, o.not_null) (omega a
 
 bytes_counted : (size : Option ℕ) (null : Bool) (told : ℕ) → null ≡ false → bytes_by size told ≤ counted size null told
 bytes_counted (Some size) null told n = omega arith
-bytes_counted None true told n = let z : ◌≡◌ {A = ℕ} 0 1 = cc in absurd (omega arith)
+bytes_counted None true told n = absurd cc
 bytes_counted None false told n = omega arith
 
 bytes_widened : (size : Option ℕ) (null : Bool) (capacity told : ℕ) → bytes_by size capacity ≡ capacity → null ≡ false → bytes_by size told ≤ widened size null capacity told
 bytes_widened (Some size) null capacity told e n = omega (arith, e)
-bytes_widened None true capacity told e n = let z : ◌≡◌ {A = ℕ} 0 1 = cc in absurd (omega arith)
+bytes_widened None true capacity told e n = absurd cc
 bytes_widened None false capacity told e n = omega arith
 
 bytes_wanted : (tight : Bool) (c : ColumnRecord) → bytes_by (size_of c.code) c.capacity ≡ c.capacity → c.is_null ≡ false → bytes_of c ≤ wanted tight c

@@ -13,7 +13,7 @@ use Rattle.rows.specs.Bounds.{all_carried}
 use Rattle.rows.specs.Standing.{pair_of, pairs_of}
 
 pub not_both : {A : Type 0} (b : Bool) → b ≡ true → b ≡ false → A
-not_both b p q = let z : ◌≡◌ {A = ℕ} 0 1 = (let e : true ≡ false = sym p ∙ q in cc) in absurd (omega arith)
+not_both b p q = absurd cc
 
 -- the columns of a table, as pairs
 

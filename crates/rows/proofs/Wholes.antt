@@ -177,7 +177,7 @@ module _ (old new : ColumnTable) (g : Grown old new) (m : Meaning) (r : Row) (a 
           before ((col t k).start + j) (omega (arith, apart new k i h (omega (arith, g.laid.count)), st))
         where
           whole_fits : (k : ℕ) → k < count_of old → (f : Field) → column_field r old k ≡ f → StandsWhole f (col t k) b → (col t k).is_null ≡ false → bytes_of (col t k) ≤ (col new k).capacity
-          whole_fits k o null e s z = let y : ◌≡◌ {A = ℕ} 0 1 = (let x : true ≡ false = sym s ∙ z in cc) in absurd (omega arith)
+          whole_fits k o null e s z = absurd cc
           whole_fits k o (held lost bs) e s z =
               let told = subst (λ (f : Field). Reported f (col old k).capacity (report_of (col old k))) e (half.reported k o) in
               let kn = subst (λ (f : Field). FieldOf (size_of (col old k).code) f) e (known k o) in
