@@ -44,6 +44,7 @@ fn run(rt: &HostRuntime) -> anyhow::Result<()> {
         return Err(anyhow!("name what to count: count FILE.. or count --tray N"));
     }
     let mut all_counted = true;
+    // no `for`: one word may take the next one with it
     while let Some(word) = words.next() {
         if word.as_str() == TRAY {
             let Some(rows) = words.next() else {

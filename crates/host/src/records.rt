@@ -11,7 +11,7 @@ pub const PAST_COLUMN: Column = Column {
 };
 
 // Where and how a column is to be written: its code, whether its numbers have no sign, and the bytes of the arena, from `start` on,
-// that it may be written to.
+// that it may be written to. The sign is a flag, as in MySQL's MYSQL_BIND.
 #[derive(Clone, Copy, PartialEq, Eq, Debug, Default)]
 pub struct BindRecord {
     pub code: u8,
@@ -20,7 +20,8 @@ pub struct BindRecord {
     pub capacity: usize,
 }
 
-// What came of a column: how long its bytes are in full, whether it is null, and whether it lost bytes or a figure.
+// What came of a column: how long its bytes are in full, whether it is null, and whether it lost bytes or a figure. Two flags beside a length,
+// as in MYSQL_BIND, through which a client library reports.
 #[derive(Clone, Copy, PartialEq, Eq, Debug, Default)]
 pub struct Report {
     pub length: u64,

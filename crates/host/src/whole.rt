@@ -5,7 +5,8 @@ ghost use Rattle.host.specs.Wholes.{Came};
 use crate::Host;
 use crate::records::{BindRecord, Fetched, Report};
 
-// Binds the host to places, and fetches; true where a row came of which nothing was truncated.
+// Binds the host to places, and fetches; true where a row came of which nothing was truncated. A bool, since there is nothing to hand out: the
+// row is in the caller's arena and reports.
 pub fn fetch_whole<H: Host>(
     host: &mut H,
     places: &[BindRecord],

@@ -6,7 +6,7 @@ use host::{BindRecord, Report};
 use mysql::Column;
 
 // The code and flags that it is bound with, its place in the arena, and what the host last reported of it: the length of its bytes in
-// full, whether it is null, and whether bytes or a figure were lost.
+// full, whether it is null, and whether bytes or a figure were lost. All in one, as the original has it, and the flags as MYSQL_BIND has them.
 #[derive(Clone, Copy, Default)]
 pub struct ColumnRecord {
     pub code: u8,

@@ -200,7 +200,7 @@ fn names_column(refusal: Refusal) -> bool
     )
 }
 
-// The kind of failure that a MySQL error number stands for.
+// The kind of failure that a MySQL error number stands for, under the original's name.
 pub fn last_error_type(number: u16) -> DatabaseErrorKind
     ensures { result ≡ kind_of number }
 {

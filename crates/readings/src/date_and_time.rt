@@ -23,7 +23,7 @@ pub struct MysqlTime {
     pub second: u32,
     // microseconds
     pub second_part: u64,
-    // whether it is negative; a reading never gives such a one
+    // whether it is negative, a flag as in MYSQL_TIME; a reading never gives such a one
     pub neg: bool,
     // 0 for a date, 1 for both, 2 for a time: a number as in C's record, where nothing checks it
     pub time_type: i32,

@@ -30,6 +30,7 @@ impl<H: Host> Session<H> {
         ensures after { IsSound H.Host.meaning self.old → Fetches H.Host.meaning result self.old self.new arena.old arena.new }
     {
         self.stage = Stage::Opened;
+        // an array, since it is the host that fills it
         let mut reports = [Report::default(); 64];
         let reports = &mut reports[..self.table.count()];
         match self.host.fetch(arena, reports) {

@@ -70,6 +70,7 @@ pub fn tally<H: Host>(host: &mut H) -> Option<Totals>
     if !host.bind(&records) {
         return None;
     }
+    // an array, since it is the host that fills it
     let mut reports = [Report::default(); 64];
     Some(count_events(host, &mut reports[..records.len()]))
 }

@@ -6,6 +6,7 @@ use arrayvec::ArrayVec;
 use host::{BindRecord, Host};
 use mysql::Column;
 
+// A column at its own code and sign. (No `From`: both types are other crates'.)
 fn own_record(column: Column) -> BindRecord
     ensures { result ≡ own_record column }
 {
@@ -16,7 +17,7 @@ fn own_record(column: Column) -> BindRecord
     }
 }
 
-// The records of a host's columns.
+// The records of a host's columns. A loop over numbers, since a host gives a column by its number, as the C API does.
 pub(crate) fn own_records<H: Host>(host: &H) -> ArrayVec<BindRecord, 64>
     ensures { result.items ≡ own_records (H.Host.meaning host.now).columns }
 {

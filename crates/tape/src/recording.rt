@@ -126,7 +126,7 @@ pub struct Events<'a> {
 }
 
 impl<'a> Events<'a> {
-    // The bytes after them.
+    // The bytes after them. A loop over how many there are: what is gone through is the bytes, and no list.
     fn end(&self) -> Option<&'a [u8]>
         ensures { left (take_events (columns_in self.now.columns.now) self.now.count self.now.bytes.now) ≡ option_map (λ x. x.now) result }
     {

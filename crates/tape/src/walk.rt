@@ -9,7 +9,7 @@ use crate::field::Field;
 use crate::recording::Columns;
 use mysql::{Column, known_buffer_size_for_ffi_type};
 
-// The number that no failure has.
+// The number that no failure has in the format.
 const NO_FAILURE: u16 = 0;
 
 // A number in two bytes. It and the next stay two functions: each is two lines over `split_first_chunk`, and one over both numbers would need a

@@ -14,7 +14,7 @@ use mysql::Column;
 use tape::{Event, Row};
 
 impl Tape<'_> {
-    // Refuses a call, for this reason.
+    // Refuses a call, for this reason, with what a refused call answers. (A tray has the same two lines: each sets a field of its own type.)
     fn refuse(&mut self, why: ClientError) -> bool
         ensures refused { result ≡ false }
         ensures after { means self.new ≡ with_error (number_of why) (means self.old) }

@@ -4,6 +4,7 @@ ghost use Rattle.host.specs.Calls.{end, in_order, all_end_by};
 
 use host::BindRecord;
 
+// Where a place ends.
 fn end_of(place: BindRecord) -> u128
     ensures { result ≡ end place }
 {

@@ -9,7 +9,7 @@ use crate::tray::Tray;
 use host::{BindRecord, ClientError, Fetched, Host, PAST_COLUMN, Report};
 use mysql::{Column, MYSQL_TYPE_VAR_STRING};
 
-// The code of the one column.
+// The code of the one column, a number as in the C interface.
 const CODE: u8 = MYSQL_TYPE_VAR_STRING;
 
 impl Tray {
@@ -23,7 +23,7 @@ impl Tray {
         })
     }
 
-    // Refuses a call, for this reason.
+    // Refuses a call, for this reason, with what a refused call answers. (A tape has the same two lines: each sets a field of its own type.)
     fn refuse(&mut self, why: ClientError) -> bool
         ensures refused { result ≡ false }
         ensures after { means self.new ≡ with_error (number_of why) (means self.old) }

@@ -3,7 +3,7 @@ use host::BindRecord;
 
 #[derive(Clone, Copy)]
 pub struct Tray {
-    // how many rows there are, and how many of them were taken off
+    // how many rows there are, and how many of them were taken off: the rows are made by rule, and stand in no list
     pub(crate) rows: u16,
     pub(crate) taken: u16,
     // the number of the current row
