@@ -13,7 +13,8 @@ use Rattle.play.specs.declared.calls.PlayError.{PlayError}
 use Rattle.play.specs.Machine.{State, start, opening_at, fetch_at, answer, after, Ideal}
 use Rattle.play.specs.Calls.{asked_of, said_of, history}
 use Rattle.play.specs.declared.steps.Player.{Player}
-use Rattle.play.specs.Players.{ideal, Playable, AnswersIf, Answers}
+use Rattle.play.specs.Moves.{NotMoved}
+use Rattle.play.specs.Players.{ideal, IsReady, Answers}
 use Rattle.play.specs.Plays.{Kept, IdealTo, LawfulTo, AlikeTo}
 use Rattle.play.proofs.Runs.{run}
 use Rattle.play.proofs.Lawful.{lawful}
@@ -63,7 +64,7 @@ run_keeps x (e ∷ es) =
 -- The first i calls are answered as the ideal session x answers them, and the player stands for what x is after them.
 pub record Along {H : Type 0} (means : H → Meaning) (x : State) (calls : List Call) (i : ℕ) (answers : List Answer) (p : Player H) : Type 0 where
   pub as_many : length answers ≡ i
-  pub playable : Playable means p
+  pub ready : IsReady means p
   pub stands : ideal means p ≡ run x (history (take i calls) answers)
   pub ideally : Ideal x (history (take i calls) answers)
 
@@ -78,11 +79,11 @@ module _ {H : Type 0} (means : H → Meaning) (x : State) (calls : List Call) wh
       let long : length xs ≡ length (take i calls) = so_far.as_many ∙ sym (length-take-le i calls (omega arith)) in
       let grown : history (take (i + 1) calls) ys ≡ before ++ entry ∷ [] =
       ap (λ (cs : List Call). history cs ys) (take_more calls i d l) ∙ ap (history (take i calls ++ call ∷ [])) e ∙ history_more (take i calls) xs call r long in
-      let says : said_of r ≡ answer (run x before) (asked_of call) = w.moved.says ∙ ap (λ (y : State). answer y (asked_of call)) so_far.stands in
+      let says : said_of r ≡ answer (run x before) (asked_of call) = w.says ∙ ap (λ (y : State). answer y (asked_of call)) so_far.stands in
       record {
         as_many = ap length e ∙ length_push xs r ∙ ap (λ (n : ℕ). n + 1) so_far.as_many;
-        playable = record { tied = w.tied; ready = w.moved.ready };
-        stands = w.moved.to ∙ ap (λ (y : State). after y (asked_of call)) so_far.stands ∙ sym (run_more x before entry) ∙ sym (ap (run x) grown);
+        ready = w.ready;
+        stands = w.to ∙ ap (λ (y : State). after y (asked_of call)) so_far.stands ∙ sym (run_more x before entry) ∙ sym (ap (run x) grown);
         ideally = subst (Ideal x) (sym grown) (ideal_more x before entry so_far.ideally says);
       }
 
@@ -94,18 +95,15 @@ module _ {H : Type 0} (means : H → Meaning) (p : Player H) where
       let k = run_keeps x (history (take i calls) xs) in
       record { columns = ap (λ (y : State). y.columns) so_far.stands ∙ k.0; carries = ap (λ (y : State). y.carries) so_far.stands ∙ k.1 }
 
-  pub kept_more : (m : Meaning) (p' : Player H) (asked : Asked) (r : Result Answer PlayError) → Kept m (means p.session.host) → AnswersIf means asked r p p' → Kept m (means p'.session.host)
-  kept_more m p' asked (Ok r) so_far w =
+  -- after one more call, and where memory ran out
+  pub kept_more : (m : Meaning) (p' : Player H) (asked : Asked) (r : Answer) → Kept m (means p.session.host) → Answers means asked r p p' → Kept m (means p'.session.host)
+  kept_more m p' asked r so_far w =
       let k = after_keeps (ideal means p) asked in
-      record {
-        columns = ap (λ (y : State). y.columns) w.moved.to ∙ k.0 ∙ so_far.columns;
-        carries = ap (λ (y : State). y.carries) w.moved.to ∙ k.1 ∙ so_far.carries;
-      }
-  kept_more m p' asked (Err e) so_far w =
-      record {
-        columns = ap (λ (y : State). y.columns) w.moved.same ∙ so_far.columns;
-        carries = ap (λ (y : State). y.carries) w.moved.same ∙ so_far.carries;
-      }
+      record { columns = ap (λ (y : State). y.columns) w.to ∙ k.0 ∙ so_far.columns; carries = ap (λ (y : State). y.carries) w.to ∙ k.1 ∙ so_far.carries }
+
+  pub kept_same : (m : Meaning) (p' : Player H) → Kept m (means p.session.host) → NotMoved (ideal means p) (means p'.session.host) p'.session p'.arena.now → Kept m (means p'.session.host)
+  kept_same m p' so_far w =
+      record { columns = ap (λ (y : State). y.columns) w.same ∙ so_far.columns; carries = ap (λ (y : State). y.carries) w.same ∙ so_far.carries }
 
 -- what is answered as the ideal session answers it is lawful, and alike
 pub lawful_to : (m : Meaning) (n : ℕ) (calls : List Call) (r : Result (Vec Answer Global) PlayError) → IdealTo (start m n) calls r → LawfulTo m n calls r

@@ -1,5 +1,5 @@
--- A player has a session, the slip of its opening, and the arena that its calls are made over: what it stands for, and what a call leaves.
-use Rattle.std.specs.Prelude.{◌≡◌, ℕ, List, is_some, Ok, Result, MatchResult}
+-- What a player stands for, and what a call of it leaves.
+use Rattle.std.specs.Prelude.{◌≡◌, ℕ, List, Ok, Result, MatchResult}
 use Rattle.mysql.specs.declared.backend.MysqlType.{MysqlType}
 use Rattle.mysql.specs.declared.fault.Fault.{Fault}
 use Rattle.host.specs.Meanings.{Meaning}
@@ -11,7 +11,6 @@ use Rattle.play.specs.declared.steps.Player.{Player}
 use Rattle.play.specs.Histories.{Asked}
 use Rattle.play.specs.Rules.{read_due}
 use Rattle.play.specs.Machine.{State}
-use Rattle.session.specs.Sessions.{is_open}
 use Rattle.play.specs.Moves.{ideal_of, Ready, MovedIf}
 
 module _ {H : Type 0} (means : H → Meaning) where
@@ -19,15 +18,13 @@ module _ {H : Type 0} (means : H → Meaning) where
   abbrev pub ideal : Player H → State
   ideal p = ideal_of (means p.session.host) p.session p.arena.now
 
-  -- it has a slip exactly where its session is opened, and its session is ready over its arena
-  pub record Playable (p : Player H) : Type 0 where
-    pub tied : is_some p.slip ≡ is_open p.session
-    pub ready : Ready (means p.session.host) p.session p.arena.now
+  -- its session is ready over its arena
+  abbrev pub IsReady : Player H → Type 0
+  IsReady p = Ready (means p.session.host) p.session p.arena.now
 
   -- a call was answered as the ideal session answers it, unless memory ran out
-  pub record AnswersIf (asked : Asked) (r : Result Answer PlayError) (p p' : Player H) : Type 0 where
-    pub tied : is_some p'.slip ≡ is_open p'.session
-    pub moved : MovedIf (ideal p) asked r (means p'.session.host) p'.session p'.arena.now
+  abbrev pub AnswersIf : Asked → Result Answer PlayError → (p p' : Player H) → Type 0
+  AnswersIf asked r p p' = MovedIf (ideal p) asked r (means p'.session.host) p'.session p'.arena.now
 
   abbrev pub Answers : Asked → Answer → (p p' : Player H) → Type 0
   Answers asked r p p' = AnswersIf asked (Ok r) p p'

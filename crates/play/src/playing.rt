@@ -2,7 +2,7 @@
 ghost use Rattle.std.specs.Prelude.{◌≡◌, length};
 ghost use Rattle.host.specs.Calls.{freed};
 ghost use Rattle.play.specs.Machine.{start};
-ghost use Rattle.play.specs.Players.{ideal, Playable};
+ghost use Rattle.play.specs.Players.{ideal, IsReady};
 ghost use Rattle.play.specs.Plays.{Kept, IdealTo, LawfulTo, AlikeTo};
 
 use crate::calls::{Answer, Call, PlayError};
@@ -13,7 +13,7 @@ use std::alloc::Global;
 impl<'a, H: Host> Player<'a, H> {
     // Makes all calls, and keeps their answers.
     fn answer_all(&mut self, calls: &[Call]) -> Result<Vec<Answer>, PlayError>
-        requires { Playable H.Host.meaning self.old }
+        requires { IsReady H.Host.meaning self.old }
         ensures host { Kept (H.Host.meaning self.old.session.host) (H.Host.meaning self.new.session.host) }
         ensures answers { IdealTo (ideal H.Host.meaning self.old) calls.now result }
     {

@@ -1,11 +1,6 @@
 // A session that is played call by call.
-ghost use Rattle.std.specs.Prelude.{◌≡◌, length};
-ghost use Rattle.host.specs.Calls.{freed};
-ghost use Rattle.play.specs.Histories.{opening, fetch as fetching, reading};
-ghost use Rattle.play.specs.Machine.{start};
-ghost use Rattle.play.specs.Calls.{asked_of};
-ghost use Rattle.play.specs.Moves.{SaidIf};
-ghost use Rattle.play.specs.Players.{ideal, Playable, Answers, AnswersIf, ReadsAs};
+ghost use Rattle.std.specs.Prelude.{◌≡◌, is_some};
+ghost use Rattle.session.specs.Sessions.{is_open};
 
 use crate::calls::{Answer, Call, PlayError};
 use host::Host;
@@ -14,19 +9,28 @@ use readings::FromSql;
 use session::{Session, Slip};
 use std::alloc::Global;
 
-// A session, the slip of its opening once one was granted, and the one arena that its calls are made over. What each call asks of
-// them, `Playable`, is a `requires` and not a ghost field: such a field takes a fact that has one proof at most, and this one may have more.
+// A session, the slip of its opening once one was granted, and the one arena that its calls are made over. That the session is ready
+// over the arena, `IsReady`, is a `requires` of each call and not a ghost field: it may have more than one proof.
 pub(crate) struct Player<'a, H> {
     pub(crate) heap: Global,
     pub(crate) session: Session<H>,
     pub(crate) slip: Option<Slip>,
     pub(crate) arena: &'a mut [u8],
+    ghost tied: { is_some slip ≡ is_open session },
 }
 
 impl<'a, H: Host> Player<'a, H> {
+    ghost use Rattle.std.specs.Prelude.{length};
+    ghost use Rattle.host.specs.Calls.{freed};
+    ghost use Rattle.play.specs.Histories.{opening, fetch as fetching, reading};
+    ghost use Rattle.play.specs.Machine.{start};
+    ghost use Rattle.play.specs.Calls.{asked_of};
+    ghost use Rattle.play.specs.Moves.{SaidIf};
+    ghost use Rattle.play.specs.Players.{ideal, IsReady, Answers, AnswersIf, ReadsAs};
+
     // A player of a new session.
     pub(crate) fn new(heap: Global, host: H, arena: &'a mut [u8]) -> Player<'a, H>
-        ensures playable { Playable H.Host.meaning result }
+        ensures ready { IsReady H.Host.meaning result }
         ensures ideal { ideal H.Host.meaning result ≡ start (H.Host.meaning host) (length arena.old) }
     {
         Player {
@@ -39,7 +43,7 @@ impl<'a, H: Host> Player<'a, H> {
 
     // An opening; its slip is kept.
     fn open(&mut self, wanted: &[Option<MysqlType>]) -> Answer
-        requires { Playable H.Host.meaning self.old }
+        requires { IsReady H.Host.meaning self.old }
         ensures { Answers H.Host.meaning (opening wanted.now) result self.old self.new }
     {
         match self.session.open(self.arena, wanted) {
@@ -53,7 +57,7 @@ impl<'a, H: Host> Player<'a, H> {
 
     // A fetch.
     fn fetch(&mut self) -> Answer
-        requires { Playable H.Host.meaning self.old }
+        requires { IsReady H.Host.meaning self.old }
         ensures { Answers H.Host.meaning fetching result self.old self.new }
     {
         self.session
@@ -63,7 +67,7 @@ impl<'a, H: Host> Player<'a, H> {
 
     // A raw reading; the bytes are copied.
     fn read(&self, column: usize) -> Result<Answer, PlayError>
-        requires { Playable H.Host.meaning self.now }
+        requires { IsReady H.Host.meaning self.now }
         ensures { SaidIf (ideal H.Host.meaning self.now) (reading column) result }
     {
         match self.session.read(self.arena, column) {
@@ -79,7 +83,7 @@ impl<'a, H: Host> Player<'a, H> {
 
     // A reading as a value of a type, which an answer holds.
     fn read_as<T: FromSql, F: FnOnce(T) -> Answer>(&self, column: usize, held_by: F) -> Answer
-        requires playable { Playable H.Host.meaning self.now }
+        requires ready { IsReady H.Host.meaning self.now }
         requires callable { F.IsAlwaysCallable held_by }
         ensures { ReadsAs T.FromSql.reads (ideal H.Host.meaning self.now) column (F.post held_by) result }
     {
@@ -90,7 +94,7 @@ impl<'a, H: Host> Player<'a, H> {
 
     // One call.
     pub(crate) fn answer(&mut self, call: Call) -> Result<Answer, PlayError>
-        requires { Playable H.Host.meaning self.old }
+        requires { IsReady H.Host.meaning self.old }
         ensures { AnswersIf H.Host.meaning (asked_of call.entry) result self.old self.new }
     {
         match call {

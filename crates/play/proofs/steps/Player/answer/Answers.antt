@@ -5,14 +5,14 @@ use Rattle.play.proofs.steps.Player.answer.Goals as goal
 pub returns-in-ReadInteger : goal.returns-in-ReadInteger
 returns-in-ReadInteger g c =
     rw c.in-ReadInteger.is
-    (record { tied = c.requires.tied; moved = record { says = integer_said _ _ c.read_as.ensures; to = refl; ready = c.requires.ready } })
+    (record { says = integer_said _ _ c.read_as.ensures; to = refl; ready = c.requires })
 
 pub returns-in-ReadBigInt : goal.returns-in-ReadBigInt
 returns-in-ReadBigInt g c =
     rw c.in-ReadBigInt.is
-    (record { tied = c.requires.tied; moved = record { says = big_integer_said _ _ c.read_as-in-ReadBigInt.ensures; to = refl; ready = c.requires.ready } })
+    (record { says = big_integer_said _ _ c.read_as-in-ReadBigInt.ensures; to = refl; ready = c.requires })
 
 pub returns-in-ReadTime : goal.returns-in-ReadTime
 returns-in-ReadTime g c =
     rw c.in-ReadTime.is
-    (record { tied = c.requires.tied; moved = record { says = moment_said _ _ c.read_as-in-ReadTime.ensures; to = refl; ready = c.requires.ready } })
+    (record { says = moment_said _ _ c.read_as-in-ReadTime.ensures; to = refl; ready = c.requires })

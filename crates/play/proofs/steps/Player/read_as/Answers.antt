@@ -5,5 +5,5 @@ pub returns : goal.returns
 returns g c =
     let s = c.args.self.now.session in
     let e = c.read_as.ensures in
-    let is = read_is (g.H.Host.meaning s.host) s c.args.self.now.arena.now c.args.column c.requires.playable.ready g.T.FromSql.reads c.read_as.result e.exact e.row in
+    let is = read_is (g.H.Host.meaning s.host) s c.args.self.now.arena.now c.args.column c.requires.ready g.T.FromSql.reads c.read_as.result e.exact e.row in
     rw (← is) c.map_or_else.ensures
