@@ -8,29 +8,29 @@ const Y: bool = true;
 
 const N: bool = false;
 
-// A row has an entry for each named code: 0 to 19, and then 245 to 255.
+// The rows, a kind of wanted type each. A row has an entry for each named code: 0 to 19, and then 245 to 255.
 
-// Of a number wanted, the codes of numbers are kept;
+// Where a number is wanted, the codes of numbers are kept.
 const NUMBER: [bool; 31] = [
     Y, Y, Y, Y, Y, Y, N, N, Y, Y, N, N, N, N, N, N, N, N, N, N, N, Y, N, N, N, N, N, N, N, N, N,
 ];
 
-// of text, JSON and the codes from ENUM to STRING;
+// Text: JSON, and the codes from ENUM to STRING.
 const TEXT: [bool; 31] = [
     N, N, N, N, N, N, N, N, N, N, N, N, N, N, N, N, N, N, N, N, Y, N, Y, Y, Y, Y, Y, Y, Y, Y, N,
 ];
 
-// of binary data, the four blobs;
+// Binary data: the four blobs.
 const BINARY: [bool; 31] = [
     N, N, N, N, N, N, N, N, N, N, N, N, N, N, N, N, N, N, N, N, N, N, N, N, Y, Y, Y, Y, N, N, N,
 ];
 
-// of a member of an enumeration or of a set, the codes from ENUM to STRING;
+// A member of an enumeration, or members of a set: the codes from ENUM to STRING.
 const MEMBER: [bool; 31] = [
     N, N, N, N, N, N, N, N, N, N, N, N, N, N, N, N, N, N, N, N, N, N, Y, Y, Y, Y, Y, Y, Y, Y, N,
 ];
 
-// and of these, none.
+// Any other type: none.
 const NOTHING: [bool; 31] = [N; 31];
 
 // A row for each type, by its number.
