@@ -61,8 +61,7 @@ pub(crate) fn field_at<'a>(row: Row<'a>, column: usize) -> Field<'a>
     row.fields().nth(column).unwrap_or(Field::Null)
 }
 
-// Writes the fields of a row to their places, with a report for each; says whether anything of it is truncated, which is no failure. The
-// reports are written by number: of what a `zip` with `iter_mut` leaves behind nothing is known.
+// Writes the fields of a row to their places, with a report for each; says whether anything of it is truncated, which is no failure.
 pub(crate) fn write_row(
     row: Row,
     places: &[BindRecord],
