@@ -1,31 +1,52 @@
 // Counts in words.
 use std::fmt;
+use std::fmt::Display;
 use tally::Totals;
 
-// What was counted of a host, in a line. A tray's rows do not fail, so none is said to.
+// What was counted of a host, in a line, or that it could not be.
 #[derive(Clone, Copy)]
-pub enum Counted {
-    Tape(Totals),
-    Tray(Totals),
-    Nothing,
+pub struct Counted<T>(pub Option<T>);
+
+impl<T: Display> Display for Counted<T> {
+    fn fmt<W: fmt::Write>(&self, f: &mut fmt::Formatter<W>) -> fmt::Result {
+        match &self.0 {
+            Some(all) => writeln!(f, "{all}"),
+            None => writeln!(f, "not counted"),
+        }
+    }
 }
 
-impl fmt::Display for Counted {
+// The count of a tape.
+#[derive(Clone, Copy)]
+pub struct OfTape(pub Totals);
+
+impl Display for OfTape {
     fn fmt<W: fmt::Write>(&self, f: &mut fmt::Formatter<W>) -> fmt::Result {
-        match *self {
-            Counted::Tape(all) => {
-                let (rows, failures) = (all.rows, all.failures);
-                let (nulls, bytes) = (all.nulls, all.bytes);
-                writeln!(
-                    f,
-                    "{rows} rows, {failures} failures, {nulls} nulls, {bytes} bytes"
-                )
-            }
-            Counted::Tray(all) => {
-                let (rows, nulls, bytes) = (all.rows, all.nulls, all.bytes);
-                writeln!(f, "{rows} rows, {nulls} nulls, {bytes} bytes")
-            }
-            Counted::Nothing => writeln!(f, "not counted"),
-        }
+        let Totals {
+            rows,
+            failures,
+            nulls,
+            bytes,
+        } = self.0;
+        write!(
+            f,
+            "{rows} rows, {failures} failures, {nulls} nulls, {bytes} bytes"
+        )
+    }
+}
+
+// The count of a tray, whose rows do not fail, so that none is said to.
+#[derive(Clone, Copy)]
+pub struct OfTray(pub Totals);
+
+impl Display for OfTray {
+    fn fmt<W: fmt::Write>(&self, f: &mut fmt::Formatter<W>) -> fmt::Result {
+        let Totals {
+            rows,
+            nulls,
+            bytes,
+            ..
+        } = self.0;
+        write!(f, "{rows} rows, {nulls} nulls, {bytes} bytes")
     }
 }

@@ -4,7 +4,7 @@
 mod count;
 
 use anyhow::anyhow;
-use count::Counted;
+use count::{Counted, OfTape, OfTray};
 use files::{end, print_file, print_held};
 use std::env;
 use std::process::ExitCode;
@@ -18,10 +18,7 @@ const TRAY: &str = "--tray";
 // Prints the count of what a file holds, or why it is no tape, and says whether it is one.
 fn count_file(rt: &HostRuntime, name: &str) -> anyhow::Result<bool> {
     print_file(rt, name, |bytes| {
-        let counted = Tape::new(bytes).map(|mut tape| tally(&mut tape).map_or(
-            Counted::Nothing,
-            Counted::Tape,
-        ));
+        let counted = Tape::new(bytes).map(|mut tape| Counted(tally(&mut tape).map(OfTape)));
         print_held(rt, name, counted)
     })
 }
@@ -32,7 +29,7 @@ fn count_rows(rt: &HostRuntime, rows: &str) -> anyhow::Result<bool> {
         eprintln!(rt; "{rows}: a tray has 0 to 65535 rows")?;
         return Ok(false);
     };
-    let counted = tally(&mut Tray::new(rows)).map_or(Counted::Nothing, Counted::Tray);
+    let counted = Counted(tally(&mut Tray::new(rows)).map(OfTray));
     print!(rt; "tray of {rows}: {counted}")?;
     Ok(true)
 }

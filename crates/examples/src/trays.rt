@@ -1,8 +1,9 @@
 // A tray through a host's calls: every refusal with its number, and places that are too short, exact and wide.
+// What a fetch answers is compared by its number, which is that of MySQL's C API.
 use host::{BindRecord, Fetched, Host, Report, fetch_whole};
 use tray::Tray;
 
-// A record for the one column.
+// A record for the one column. (The tests of tapes as hosts have the same lines: no crate of tests lies below both.)
 fn place(code: u8, start: usize, capacity: usize) -> BindRecord {
     BindRecord {
         code,

@@ -1,4 +1,5 @@
 // A tape through a host's calls: every refusal with its number, places that are too short, exact and wide, and counts over both hosts.
+// What a fetch answers is compared by its number, which is that of MySQL's C API.
 use host::{BindRecord, Fetched, Host, Report};
 use std::test::Fail;
 use tally::{Totals, tally};
