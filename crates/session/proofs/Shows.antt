@@ -87,8 +87,7 @@ module _ {H : Type 0} (s : Session H) (a : List ℕ) (p : passes s a ≡ true) w
   pub past : {X : Type 0} (x : Result X Fault) → past_checks s (length a) x ≡ x
   past x =
       let q = and_parts (is_open s) (eqb (length a) s.table.room) p in
-      ap (λ (b : Bool). cond b (cond (eqb (length a) s.table.room) x (Err (refused ArenaLength))) (Err (refused Unopened))) q.0
-      ∙ ap (λ (b : Bool). cond b x (Err (refused ArenaLength))) q.1
+      rw (q.0, q.1) refl
 
 -- bytes that are read where a row is shown and the column is not null
 module _ {H : Type 0} (s : Session H) (a : List ℕ) (k : ℕ) where
@@ -116,10 +115,9 @@ part_is bs a at n e l h =
 
 -- a column that holds a field whole shows it
 whole_shown : (k : ℕ) (c : ColumnRecord) (f : Field) (a : List ℕ) → (c.is_null ≡ false → c.start + bytes_of c ≤ length a) → StandsWhole f c a → record_shown k c a ≡ field_shown k (pair_of c) f
-whole_shown k c null a i w = ap (λ (z : Bool). cond z (Ok None) (typed k (take (bytes_of c) (drop c.start a)) (type_of c.code c.flags))) w
+whole_shown k c null a i w = rw w refl
 whole_shown k c (held lost bs) a i w =
-    ap (λ (z : Bool). cond z (Ok None) (typed k (take (bytes_of c) (drop c.start a)) (type_of c.code c.flags))) w.0
-    ∙ ap (λ (z : List ℕ). typed k z (type_of c.code c.flags)) (part_is bs a c.start (bytes_of c) w.1 (i w.0) w.2)
+    rw (w.0, part_is bs a c.start (bytes_of c) w.1 (i w.0) w.2) refl
 
 module _ {H : Type 0} (m : Meaning) (s : Session H) (a : List ℕ) (k : ℕ) (sound : Sound m s) (holds : Holds m s a) (p : passes s a ≡ true) where
   abbrev t : ColumnTable
