@@ -21,7 +21,7 @@ use Rattle.session.specs.declared.state.Value.{Value}
 use Rattle.readings.specs.declared.value.MysqlValue.{MysqlValue}
 use Rattle.readings.specs.Nulls.{nullable}
 use Rattle.rows.specs.Bounds.{field_at}
-use Rattle.rows.specs.Dues.{faulted, read_as, typed, field_shown, row_shown, read}
+use Rattle.rows.specs.Dues.{faulted, read_as, field_shown, row_shown, read}
 use Rattle.rows.specs.Standing.{pair_of, pairs_of, StandsWhole}
 use Rattle.session.specs.Sessions.{is_open, is_shown, Sound, Holds, shown_row, passes, past_checks, record_shown, reading, viewed}
 
@@ -100,11 +100,7 @@ module _ {H : Type 0} (s : Session H) (a : List ℕ) (k : ℕ) where
       let there = take (bytes_of c) (drop c.start a) in
       sym (
       past s a p (cond (ltb k (count_of s.table)) (cond (is_shown s) (record_shown k c a) (Err (refused NoCurrentRow))) (Err (refused NoSuchColumn)))
-      ∙ ap (λ (z : Bool). cond z (cond (is_shown s) (record_shown k c a) (Err (refused NoCurrentRow))) (Err (refused NoSuchColumn))) (lt-ltb k (count_of s.table) l)
-      ∙ ap (λ (z : Bool). cond z (record_shown k c a) (Err (refused NoCurrentRow))) h
-      ∙ ap (λ (z : Bool). cond z (Ok None) (typed k there (type_of c.code c.flags))) n
-      ∙ ap (typed k there) t
-      ∙ ap (λ (z : List ℕ). Ok (Some (record { tpe = tpe; bytes = z }))) (sym b)
+      ∙ rw (lt-ltb k (count_of s.table) l, h, n, t, b) refl
       )
 
 -- bytes that stand one after the other are those of the part
