@@ -26,7 +26,8 @@ fn bound_column<H: Host>(
     taken(wanted.get(i).copied().flatten(), host.column(i))
 }
 
-// The codes and flags that all columns are bound with.
+// The codes and flags that all columns are bound with. The host gives a column by its number, and there may be fewer or more wanted
+// types than columns.
 fn bound_columns<H: Host>(
     host: &H,
     wanted: &[Option<MysqlType>],
