@@ -1,3 +1,4 @@
 pub mod Truncation
 pub mod Placed
 pub mod Bound
+pub mod Written

@@ -1,8 +1,7 @@
 -- What fits its place.
-use Rattle.std.proofs.Common.{◌≡◌, ℕ, ◌<◌, ◌≤◌, Some, None, Option, refl, ap, ⊎_elim, arith}
+use Rattle.std.proofs.Common.{◌≡◌, ℕ, ◌<◌, ◌≤◌, Some, None, Option, refl, ⊎_elim, arith}
 use Rattle.std.proofs.lemmas.Bool.{cases_lt}
 use Rattle.mysql.specs.Types.{size_of}
-use Rattle.layout.specs.declared.record.ColumnRecord.{ColumnRecord}
 use Rattle.layout.specs.declared.table.ColumnTable.{ColumnTable}
 use Rattle.layout.specs.Columns.{bytes_by, Over, Fits}
 use Rattle.layout.specs.Tables.{count_of, col}
@@ -20,7 +19,3 @@ fits_unless_over t k l h here =
     (λ (o : c.capacity < c.length). absurd (h (record { variable = v; not_null = here; longer = o })))
     (λ (o : c.length ≤ c.capacity). o)
     (cases_lt c.capacity c.length))
-
--- and a text longer than its place does not
-pub over_not_fits : (c : ColumnRecord) → Over c → Fits c → ⊥
-over_not_fits c o h = omega (arith, h o.not_null, o.longer, ap (λ (z : Option ℕ). bytes_by z c.length) o.variable)

@@ -1,27 +1,12 @@
 -- What a report that is noted leaves of a table.
-use Rattle.std.proofs.Common.{◌≡◌, ℕ, ◌+◌, ◌<◌, ◌≤◌, ◌≢◌, List, map, length, get_or, set, refl, ap, ◌∙◌, subst, ⊎_elim, arith}
-use Rattle.std.proofs.lemmas.List.{get_or-set_same, get_or-set_other}
-use Rattle.std.proofs.Math.Seq.{map-set_same}
+use Rattle.std.proofs.Common.{◌≡◌, ℕ, ◌+◌, ◌<◌, ◌≤◌, List, get_or, ap, ◌∙◌, subst, ⊎_elim, arith}
 use Rattle.std.proofs.lemmas.Bool.{cases_lt}
 use Rattle.host.specs.declared.records.Report.{Report}
 use Rattle.host.specs.Calls.{no_report}
 use Rattle.layout.specs.declared.record.ColumnRecord.{ColumnRecord}
 use Rattle.layout.specs.declared.table.ColumnTable.{ColumnTable}
-use Rattle.layout.specs.Columns.{no_record, bind_of, noted}
+use Rattle.layout.specs.Columns.{noted}
 use Rattle.layout.specs.Tables.{count_of, col, NotedAt, SamePlaces}
-
-module _ (cs : List ColumnRecord) (i : ℕ) (r : Report) where
-  abbrev after : List ColumnRecord
-  after = set cs i (noted (get_or cs i no_record) r)
-
-  pub note_binds : map bind_of after ≡ map bind_of cs
-  note_binds = map-set_same bind_of cs i (noted (get_or cs i no_record) r) no_record refl
-
-  pub note_here : i < length cs → get_or after i no_record ≡ noted (get_or cs i no_record) r
-  note_here l = get_or-set_same cs i (noted (get_or cs i no_record) r) no_record l
-
-  pub note_other : (k : ℕ) → k ≢ i → get_or after k no_record ≡ get_or cs k no_record
-  note_other k ne = get_or-set_other cs i k (noted (get_or cs i no_record) r) no_record ne
 
 pub same_places : (t u v : ColumnTable) → SamePlaces t u → SamePlaces u v → SamePlaces t v
 same_places t u v a b = record {

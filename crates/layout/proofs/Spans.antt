@@ -1,7 +1,7 @@
 -- How places lie that follow one another.
 use Rattle.std.proofs.Common.{◌≡◌, ℕ, ◌+◌, ◌<◌, ◌≤◌, Bool, true, false, List, length, get_or, take, ap, arith}
 use Rattle.std.proofs.lemmas.List.{get_or-take, length-take, take-take, take_all}
-use Rattle.std.proofs.lemmas.List.Sums.{sum_by_more, sum_by_more_le}
+use Rattle.std.proofs.lemmas.List.Sums.{sum_by_more_le}
 use Rattle.layout.specs.declared.record.ColumnRecord.{ColumnRecord}
 use Rattle.layout.specs.declared.table.ColumnTable.{ColumnTable}
 use Rattle.layout.specs.Columns.{no_record, total, span, kept, kept_if, bytes_of}
@@ -38,6 +38,3 @@ module _ (t : ColumnTable) where
 
   pub end_in_room : end t ≤ t.room
   end_in_room = t.within
-
-  pub end_is : (k : ℕ) → count_of t ≡ k + 1 → end t ≡ start t k + (col t k).capacity
-  end_is k e = omega (arith, t.laid k (omega arith), sum_by_more capacity t.columns.items k no_record (omega arith), span_all t.columns.items (k + 1) (omega arith))

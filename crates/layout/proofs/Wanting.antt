@@ -94,30 +94,20 @@ kept_wanted false c = kept_widened (size_of c.code) c.is_null c.capacity c.lengt
 
 -- a text that is longer than its place gets its length
 
-over_counted : (size : Option ℕ) (null : Bool) (capacity told : ℕ) → size ≡ None → null ≡ false → capacity < told → counted size null told ≡ told
-over_counted None false capacity told v n l = omega arith
-over_counted None true capacity told v n l = let z : ◌≡◌ {A = ℕ} 0 1 = cc in absurd (omega arith)
-over_counted (Some size) null capacity told v n l = let z : ◌≡◌ {A = ℕ} 0 1 = cc in absurd (omega arith)
-
-over_widened : (size : Option ℕ) (null : Bool) (capacity told : ℕ) → size ≡ None → null ≡ false → capacity < told → widened size null capacity told ≡ told
-over_widened None false capacity told v n l = omega arith
-over_widened None true capacity told v n l = let z : ◌≡◌ {A = ℕ} 0 1 = cc in absurd (omega arith)
-over_widened (Some size) null capacity told v n l = let z : ◌≡◌ {A = ℕ} 0 1 = cc in absurd (omega arith)
-
 over_wanted : (tight : Bool) (c : ColumnRecord) → Over c → wanted tight c ≡ c.length
-over_wanted true c o = over_counted (size_of c.code) c.is_null c.capacity c.length o.variable o.not_null o.longer
-over_wanted false c o = over_widened (size_of c.code) c.is_null c.capacity c.length o.variable o.not_null o.longer
+over_wanted true c o = let l = o.longer in rw (o.variable, o.not_null) (omega arith)
+over_wanted false c o = let l = o.longer in rw (o.variable, o.not_null) (omega arith)
 
 -- the bytes of what is no null have room in what the column gets
 
 bytes_counted : (size : Option ℕ) (null : Bool) (told : ℕ) → null ≡ false → bytes_by size told ≤ counted size null told
 bytes_counted (Some size) null told n = omega arith
-bytes_counted None true told n = let z : ◌≡◌ {A = ℕ} 0 1 = cc in absurd (omega arith)
+bytes_counted None true told n = absurd cc
 bytes_counted None false told n = omega arith
 
 bytes_widened : (size : Option ℕ) (null : Bool) (capacity told : ℕ) → bytes_by size capacity ≡ capacity → null ≡ false → bytes_by size told ≤ widened size null capacity told
 bytes_widened (Some size) null capacity told e n = omega (arith, e)
-bytes_widened None true capacity told e n = let z : ◌≡◌ {A = ℕ} 0 1 = cc in absurd (omega arith)
+bytes_widened None true capacity told e n = absurd cc
 bytes_widened None false capacity told e n = omega arith
 
 bytes_wanted : (tight : Bool) (c : ColumnRecord) → bytes_by (size_of c.code) c.capacity ≡ c.capacity → c.is_null ≡ false → bytes_of c ≤ wanted tight c
@@ -137,9 +127,6 @@ module _ (old new : ColumnTable) (g : Grown old new) (k : ℕ) (l : k < count_of
   -- so what was reported fits the new place
   pub new_bytes : (col old k).is_null ≡ false → bytes_of (col old k) ≤ (col new k).capacity
   new_bytes n = omega (arith, new_capacity, bytes_wanted g.tight (col old k) (old.sized k l) n)
-
-  pub new_fits : Fits (col new k)
-  new_fits = subst Fits (sym (g.laid.each k l)) (λ n. bytes_wanted g.tight (col old k) (old.sized k l) n)
 
 -- a column of a list that is the table's, and the capacity that it gets
 module _ (t : ColumnTable) (cs : List ColumnRecord) (e : cs ≡ t.columns.items) (i : ℕ) (l : i < count_of t) (tight : Bool) (n : ℕ) (w : n ≡ wanted tight (get_or cs i no_record)) where

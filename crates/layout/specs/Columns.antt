@@ -72,6 +72,10 @@ wanted false c = widened (size_of c.code) c.is_null c.capacity c.length
 abbrev pub sum : Bool → List ColumnRecord → ℕ
 sum tight cs = sum_by (wanted tight) cs
 
+-- a closure that gives columns capacities gives each the one of a tight layout, or each the one of a wide layout
+abbrev pub RuleOf : (ColumnRecord → ℕ → Type 0) → Bool → Type 0
+RuleOf gives tight = (c : ColumnRecord) (n : ℕ) → gives c n → n ≡ wanted tight c
+
 -- a text is longer than its place
 pub record Over (c : ColumnRecord) : Type 0 where
   pub variable : size_of c.code ≡ None

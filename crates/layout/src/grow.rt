@@ -1,8 +1,7 @@
 // Places that grow, so that a row fits which did not.
-ghost use Rattle.std.specs.Prelude.{◌≡◌, ℕ, ◌<◌, ◌≤◌, Bool, MatchOption};
+ghost use Rattle.std.specs.Prelude.{◌<◌, ◌≤◌, Bool, MatchOption};
 ghost use Rattle.std.specs.Fn.{FnReturnsAt};
-ghost use Rattle.layout.specs.declared.record.ColumnRecord.{ColumnRecord as Record};
-ghost use Rattle.layout.specs.Columns.{wanted};
+ghost use Rattle.layout.specs.Columns.{RuleOf};
 ghost use Rattle.layout.specs.Tables.{Grown, Relaid, sum_of, need};
 ghost use Rattle.layout.specs.Moves.{Grows};
 
@@ -40,8 +39,8 @@ impl ColumnTable {
     // The same columns, one after another, with these capacities. None where the arena is too short for these.
     pub(crate) fn relaid<F: Fn(&ColumnRecord) -> usize>(&self, capacity: F) -> Option<ColumnTable>
         requires callable { F.IsAlwaysCallable capacity }
-        requires layout { (tight : Bool) × ((c : Record) (n : ℕ) → FnReturnsAt F.Fn capacity c n → n ≡ wanted tight c) }
-        ensures { (tight : Bool) → ((c : Record) (n : ℕ) → FnReturnsAt F.Fn capacity c n → n ≡ wanted tight c) → MatchOption result (self.now.room < sum_of tight self.now) (λ t. (sum_of tight self.now ≤ self.now.room) × (Relaid tight self.now t)) }
+        requires layout { (tight : Bool) × RuleOf (FnReturnsAt F.Fn capacity) tight }
+        ensures { (tight : Bool) → RuleOf (FnReturnsAt F.Fn capacity) tight → MatchOption result (self.now.room < sum_of tight self.now) (λ t. (sum_of tight self.now ≤ self.now.room) × (Relaid tight self.now t)) }
     {
         let mut table = ColumnTable {
             columns: ArrayVec::new(),

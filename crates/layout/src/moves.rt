@@ -16,6 +16,9 @@ fn shift(arena: &mut [u8], from: usize, n: usize, to: usize)
     arena.copy_within(from..from + n, to);
 }
 
+// The two passes alone ask that the new table is the old one grown, inside the arena: a struct of both tables, made for two calls,
+// would be no plainer.
+
 // Moves what goes right, from the last column to the first, so that nothing is written over that is still to be moved.
 pub(crate) fn right(arena: &mut [u8], old: &ColumnTable, new: &ColumnTable)
     requires grown { Grown old.now new.now }

@@ -56,7 +56,7 @@ module _ (m : Meaning) (r : Row) (old : ColumnTable) (a : List ℕ) (row : RowIn
       capacity_is k l = ap (λ (x : BindRecord). x.capacity) (same_bind new t places k (omega (arith, moved.grown.laid.count)))
 
       fits_by : (k : ℕ) → k < count_of old → (f : Field) → column_field r old k ≡ f → StandsWhole f (col t k) b' → Fits (col t k)
-      fits_by k l null e s z = let y : ◌≡◌ {A = ℕ} 0 1 = (let x : true ≡ false = sym s ∙ z in cc) in absurd (omega arith)
+      fits_by k l null e s z = absurd cc
       fits_by k l (held lost bs) e s z =
           let told = subst (λ (f : Field). Reported f (col old k).capacity (report_of (col old k))) e (row.reported k l) in
           let kn = subst (λ (f : Field). FieldOf (size_of (col old k).code) f) e (known k l) in

@@ -1,5 +1,5 @@
 -- The columns of a table as pairs of code and flags, and what a host answers to its places.
-use Rattle.std.proofs.Common.{◌≡◌, ℕ, suc, ◌-◌, ◌<◌, Bool, true, false, cond, ◌&&◌, List, [], ◌∷◌, map, length, get_or, take, sym, refl, ap, ◌∙◌, arith}
+use Rattle.std.proofs.Common.{◌≡◌, ℕ, suc, ◌<◌, Bool, true, false, cond, ◌&&◌, List, [], ◌∷◌, map, length, get_or, sym, refl, ap, ◌∙◌, arith}
 use Rattle.std.proofs.lemmas.List.{get_or-map, length-map}
 use Rattle.std.proofs.lemmas.Bool.{eq-eqb}
 use Rattle.host.specs.Meanings.{Meaning}
@@ -13,7 +13,7 @@ use Rattle.rows.specs.Bounds.{all_carried}
 use Rattle.rows.specs.Standing.{pair_of, pairs_of}
 
 pub not_both : {A : Type 0} (b : Bool) → b ≡ true → b ≡ false → A
-not_both b p q = let z : ◌≡◌ {A = ℕ} 0 1 = (let e : true ≡ false = sym p ∙ q in cc) in absurd (omega arith)
+not_both b p q = absurd cc
 
 -- the columns of a table, as pairs
 

@@ -1,7 +1,6 @@
 -- A part of a column, fetched into a part of the arena.
 use borrow.Rule.Slice.PartMut.{put_mid}
-use Rattle.std.proofs.Common.{◌≡◌, ℕ, ◌+◌, ◌-◌, ◌<◌, ◌≤◌, List, length, get_or, take, drop, Some, Option, sym, ap, ◌∙◌, subst, arith}
-use Rattle.std.proofs.lemmas.List.{length-take, length-drop}
+use Rattle.std.proofs.Common.{◌≡◌, ℕ, ◌+◌, ◌-◌, ◌<◌, ◌≤◌, List, length, get_or, Some, Option, sym, ap, ◌∙◌, subst, arith}
 use Rattle.host.specs.declared.records.BindRecord.{BindRecord}
 use Rattle.host.specs.declared.records.Report.{Report}
 use Rattle.host.specs.Fields.{Field, null, held}
@@ -15,21 +14,31 @@ stands_at : (f : Field) (from n : ℕ) (part a : List ℕ) → ((j : ℕ) → j 
 stands_at null from n part a h s = tt
 stands_at (held lost bs) from n part a h s = λ j l. h j (omega arith) ∙ (let z : j ≡ 0 + j = omega arith in ap (λ i. get_or part i 0) z) ∙ s j l
 
-module _ (m m' : Meaning) (r : Row) (b : BindRecord) (column offset : ℕ) (before report : Report) (from to : ℕ) (xs ys : List ℕ)
+module _ (m m' : Meaning) (r : Row) (b : BindRecord) (column offset : ℕ) (before report : Report) (part part' : List ℕ)
     (current : m.current ≡ Some r) (at : record_of m column ≡ Some b) where
-  pub part_got : from ≤ to → to ≤ length xs → length ys ≡ to - from → PartCame m m' column offset before report (take (to - from) (drop from xs)) ys
-      → PartGot m (field_of r column b) offset report m' from to (put_mid from (to - from) xs ys)
-  part_got forward within long w =
+  pub part_got : PartCame m m' column offset before report part part' → PartGot m (field_of r column b) offset report m' 0 (length part') part'
+  part_got w =
       let same_row : w.fields ≡ r = (let e : Some w.fields ≡ Some r = sym w.current ∙ current in cc) in
       let same_place : w.at ≡ b = (let e : Some w.at ≡ Some b = sym w.bound ∙ at in cc) in
       let same : field_of w.fields column w.at ≡ field_of r column b = ap (λ (x : Row). field_of x column w.at) same_row ∙ ap (field_of r column) same_place in
-      let n : length (take (to - from) (drop from xs)) ≡ to - from = simp (length-take, length-drop) (omega arith) in
+      let n : length part ≡ length part' - 0 = omega (arith, w.as_long) in
       record {
         host = w.after;
-        reported = subst (λ (f : Field). PartReported f offset (to - from) report) same (subst (λ (k : ℕ). PartReported (field_of w.fields column w.at) offset k report) n w.reported);
-        stands = stands_at (from_offset offset (field_of r column b)) from (to - from) ys (put_mid from (to - from) xs ys) (put_inside from (to - from) xs ys (omega arith) long)
-            (subst (λ (f : Field). Stands (from_offset offset f) 0 (to - from) ys) same (subst (λ (k : ℕ). Stands (from_offset offset (field_of w.fields column w.at)) 0 k ys) n w.stands));
+        reported = subst (λ (f : Field). PartReported f offset (length part' - 0) report) same (subst (λ (k : ℕ). PartReported (field_of w.fields column w.at) offset k report) n w.reported);
+        stands = subst (λ (f : Field). Stands (from_offset offset f) 0 (length part' - 0) part') same (subst (λ (k : ℕ). Stands (from_offset offset (field_of w.fields column w.at)) 0 k part') n w.stands);
       }
 
-  pub part_never_refused : {A : Type 0} (part part' : List ℕ) → PartRefused m m' column before report part part' → A
-  part_never_refused part part' w = absurd (w.error (ap (λ (o : Option Row). part_error o (record_of m column)) current ∙ ap (part_error (Some r)) at))
+  pub part_never_refused : {A : Type 0} → PartRefused m m' column before report part part' → A
+  part_never_refused w = absurd (w.error (ap (λ (o : Option Row). part_error o (record_of m column)) current ∙ ap (part_error (Some r)) at))
+
+-- the same in the arena, which has the part from a byte on
+pub part_placed : (m m' : Meaning) (f : Field) (offset : ℕ) (report : Report) (from to : ℕ) (xs ys : List ℕ) → from ≤ to → to ≤ length xs → length ys ≡ to - from
+    → PartGot m f offset report m' 0 (length ys) ys → PartGot m f offset report m' from to (put_mid from (to - from) xs ys)
+part_placed m m' f offset report from to xs ys forward within long w =
+    let n : length ys - 0 ≡ to - from = omega (arith, long) in
+    record {
+      host = w.host;
+      reported = subst (λ (k : ℕ). PartReported f offset k report) n w.reported;
+      stands = stands_at (from_offset offset f) from (to - from) ys (put_mid from (to - from) xs ys) (put_inside from (to - from) xs ys (omega arith) long)
+          (subst (λ (k : ℕ). Stands (from_offset offset f) 0 k ys) n w.stands);
+    }

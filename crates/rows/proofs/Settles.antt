@@ -1,5 +1,5 @@
 -- A row that the host wrote and reported: shown or refused, and what is then in the table.
-use Rattle.std.proofs.Common.{◌≡◌, ℕ, ◌+◌, ◌<◌, ◌≤◌, Bool, true, false, cond, ltb, List, length, get_or, take, Some, None, Ok, Err, Option, sym, refl, ap, ◌∙◌, subst, arith}
+use Rattle.std.proofs.Common.{◌≡◌, ℕ, ◌+◌, ◌<◌, ◌≤◌, Bool, true, false, cond, ltb, List, length, get_or, Some, None, Ok, Err, Option, sym, refl, ap, ◌∙◌, subst, arith}
 use Rattle.std.proofs.lemmas.Bool.{le-leb, lt-leb, le-ltb, lt-ltb}
 use Rattle.mysql.specs.declared.bind.Column.{Column}
 use Rattle.mysql.specs.declared.fault.Fault.{Fault}
@@ -13,7 +13,7 @@ use Rattle.host.specs.Meanings.{Row, Meaning}
 use Rattle.host.specs.Calls.{Reported, Stands}
 use Rattle.layout.specs.declared.record.ColumnRecord.{ColumnRecord}
 use Rattle.layout.specs.declared.table.ColumnTable.{ColumnTable}
-use Rattle.layout.specs.Columns.{no_record, wanted, Fits, Lost}
+use Rattle.layout.specs.Columns.{wanted, Fits, Lost}
 use Rattle.layout.specs.Tables.{count_of, no_pair, col, binds, sum_of, need, Noted, SamePlaces, AllFit, NoneLost, LowestLost}
 use Rattle.layout.proofs.Binding.{sized_at}
 use Rattle.layout.proofs.Wanting.{fits_need, fits_wide, fits_sum}

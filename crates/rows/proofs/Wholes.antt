@@ -1,4 +1,5 @@
 -- The missing parts of a row, fetched column by column, until all of it stands in the new places.
+use borrow.Rule.Slice.PartMut.{put_mid}
 use Rattle.std.proofs.Common.{◌≡◌, ℕ, ◌+◌, ◌-◌, ◌<◌, ◌≤◌, min, Bool, true, false, ◌≢◌, List, length, get_or, drop, None, Option, sym, refl, ap, ◌∙◌, subst, ⊎_elim, arith, below_more}
 use Rattle.std.proofs.lemmas.List.{get_or-drop, length-drop}
 use Rattle.std.proofs.lemmas.Bool.{cases_eq, cases_lt}
@@ -19,6 +20,8 @@ use Rattle.layout.proofs.Binding.{same_bind}
 use Rattle.layout.proofs.Wanting.{new_over, new_bytes}
 use Rattle.rows.specs.Standing.{pair_of, report_of, StandsWhole}
 use Rattle.rows.specs.Settling.{column_field, NotLost, PartGot, Half}
+use Rattle.host.proofs.Placed.{put_below, put_above}
+use Rattle.rows.proofs.Parts.{part_placed}
 use Rattle.rows.proofs.Columned.{field_known, held_bytes, not_truncated, FieldOf, reported_at}
 
 -- the columns below i stand whole, the others have their kept bytes in place
@@ -174,7 +177,7 @@ module _ (old new : ColumnTable) (g : Grown old new) (m : Meaning) (r : Row) (a 
           before ((col t k).start + j) (omega (arith, apart new k i h (omega (arith, g.laid.count)), st))
         where
           whole_fits : (k : ℕ) → k < count_of old → (f : Field) → column_field r old k ≡ f → StandsWhole f (col t k) b → (col t k).is_null ≡ false → bytes_of (col t k) ≤ (col new k).capacity
-          whole_fits k o null e s z = let y : ◌≡◌ {A = ℕ} 0 1 = (let x : true ≡ false = sym s ∙ z in cc) in absurd (omega arith)
+          whole_fits k o null e s z = absurd cc
           whole_fits k o (held lost bs) e s z =
               let told = subst (λ (f : Field). Reported f (col old k).capacity (report_of (col old k))) e (half.reported k o) in
               let kn = subst (λ (f : Field). FieldOf (size_of (col old k).code) f) e (known k o) in
@@ -213,10 +216,40 @@ module _ (old new : ColumnTable) (g : Grown old new) (m : Meaning) (r : Row) (a 
             beyond = λ p h. after p (omega (arith, inside_new i l)) ∙ w.beyond p h;
           }
 
--- what is missing of a text has room in its new place
-pub over_inside : (old new : ColumnTable) → Grown old new → (i : ℕ) → i < count_of old → Over (col old i) → start new i + (col old i).length ≤ old.room
-over_inside old new g i l o = let w = new.within in omega (arith, inside new i (omega (arith, g.laid.count)), new_over old new g i l o, g.laid.room)
-
 -- where the places stay, so does a column's start
 pub same_start : (new t : ColumnTable) → SamePlaces new t → (i : ℕ) → i < count_of new → start t i ≡ start new i
 same_start new t p i l = ap (λ (x : BindRecord). x.start) (same_bind new t p i l)
+
+-- what is missing of a text has room in its new place: x is the column as it was, and y as it is
+pub missing_inside : (old new t : ColumnTable) → Grown old new → SamePlaces new t → (i : ℕ) → i < count_of old → (x y : ColumnRecord) → x ≡ col old i → y ≡ col t i → Over x → y.start + x.length ≤ old.room
+missing_inside old new t g p i l x y is to o =
+    let w = new.within in let m : i < count_of new = omega (arith, g.laid.count) in
+    omega (arith, ap (λ (z : ColumnRecord). z.start) to, same_start new t p i m, inside new i m, new_over old new g i l (subst Over is o), ap (λ (z : ColumnRecord). z.length) is, g.laid.room)
+
+-- one column more, whose missing part was fetched to its place in the arena
+module _ (old new : ColumnTable) (g : Grown old new) (m : Meaning) (r : Row) (a : List ℕ) (half : Half m r old new a)
+    (i : ℕ) (l : i < count_of old) (n : Meaning) (t : ColumnTable) (b : List ℕ) (w : WholeTo i m r old new a n t b) (places : SamePlaces new t)
+    (x y : ColumnRecord) (is : x ≡ col old i) (to : y ≡ col t i) (over : Over x) (room : old.room ≤ length b)
+    (n' : Meaning) (u : ColumnTable) (b' : List ℕ) (report : Report) (part : List ℕ) where
+  pub whole_fetched : length part ≡ y.start + x.length - (y.start + x.capacity)
+      → b' ≡ put_mid (y.start + x.capacity) (y.start + x.length - (y.start + x.capacity)) b part
+      → PartGot n (column_field r old i) x.capacity report n' 0 (length part) part
+      → NotedAt i t report u → WholeTo (i + 1) m r old new a n' u b'
+  whole_fetched long put got noted_in =
+      let from = y.start + x.capacity in
+      let to_end = y.start + x.length in
+      let longer = over.longer in
+      let inside = missing_inside old new t g places i l x y is to over in
+      let st : y.start ≡ start new i = ap (λ (z : ColumnRecord). z.start) to ∙ same_start new t places i (omega (arith, g.laid.count)) in
+      let cap = ap (λ (z : ColumnRecord). z.capacity) is in
+      let len = ap (λ (z : ColumnRecord). z.length) is in
+      let below = put_below from (to_end - from) b part (omega arith) long in
+      let above = put_above from (to_end - from) b part (omega arith) long in
+      let placed = subst (λ (z : List ℕ). PartGot n (column_field r old i) x.capacity report n' from to_end z) (sym put)
+      (part_placed n n' (column_field r old i) x.capacity report from to_end b part (omega arith) (omega arith) long got) in
+      let moved_to = subst (λ (s : ℕ). PartGot n (column_field r old i) x.capacity report n' (s + x.capacity) (s + x.length) b') st placed in
+      let at_old = subst (λ (d : ColumnRecord). PartGot n (column_field r old i) d.capacity report n' (start new i + d.capacity) (start new i + d.length) b') is moved_to in
+      whole_more old new g m r a half i l n t b w n' u b' report (subst Over is over) places
+      (λ p h. ap (λ (z : List ℕ). get_or z p 0) put ∙ below p (omega (arith, st, cap)))
+      (λ p h. ap (λ (z : List ℕ). get_or z p 0) put ∙ above p (omega (arith, st, len)))
+      at_old noted_in

@@ -1,6 +1,6 @@
 -- What becomes of a row between the host's fetch and the session's answer. These relations tie the private steps of a fetch together;
 -- what a fetch as a whole does is in Sessions.
-use Rattle.std.specs.Prelude.{◌≡◌, ℕ, ◌-◌, ◌<◌, ◌≤◌, Bool, true, false, List, length, Some, None, Ok, Err, Option, Result, nat_lt, slice_index, slice_index_or}
+use Rattle.std.specs.Prelude.{◌≡◌, ℕ, ◌-◌, ◌<◌, ◌≤◌, Bool, true, false, List, length, Some, Ok, Err, Result, nat_lt, slice_index, slice_index_or}
 use Rattle.mysql.specs.declared.fault.Fault.{Fault}
 use Rattle.mysql.specs.declared.fault.Refusal.TheVariants.{NoRoom}
 use Rattle.mysql.specs.Faults.{refused}
@@ -60,12 +60,12 @@ pub record PartGot (m : Meaning) (f : Field) (offset : ℕ) (report : Report) (m
   pub reported : PartReported f offset (to - from) report
   pub stands : Stands (from_offset offset f) from (to - from) a'
 
-abbrev pub PartAs : Option Report → Meaning → Field → ℕ → Meaning → (from to : ℕ) → List ℕ → Type 0
-PartAs None m f offset m' from to a' = ⊥
-PartAs (Some report) m f offset m' from to a' = PartGot m f offset report m' from to a'
+abbrev pub PartAs : Result Report Fault → Meaning → Field → ℕ → Meaning → (from to : ℕ) → List ℕ → Type 0
+PartAs (Err f) m field offset m' from to a' = ⊥
+PartAs (Ok report) m field offset m' from to a' = PartGot m field offset report m' from to a'
 
 -- it is, where a row is current and the column is bound
-abbrev pub PartInto : Meaning → Row → BindRecord → (column offset : ℕ) → Option Report → Meaning → (from to : ℕ) → List ℕ → Type 0
+abbrev pub PartInto : Meaning → Row → BindRecord → (column offset : ℕ) → Result Report Fault → Meaning → (from to : ℕ) → List ℕ → Type 0
 PartInto m r b column offset report m' from to a' = m.current ≡ Some r → record_of m column ≡ Some b → PartAs report m (field_of r column b) offset m' from to a'
 
 -- the table `old` has a row's reports, and what was kept of the row stands in the places of `new`
@@ -83,9 +83,9 @@ pub record Whole (m : Meaning) (r : Row) (old new : ColumnTable) (a : List ℕ) 
   pub whole : (k : ℕ) → k < count_of old → StandsWhole (column_field r old k) (col t k) a'
   pub beyond : Beyond (end new) a a'
 
-abbrev pub WholeAs : Bool → Meaning → Row → (old new : ColumnTable) → List ℕ → Meaning → ColumnTable → List ℕ → Type 0
-WholeAs true m r old new a m' t a' = Whole m r old new a m' t a'
-WholeAs false m r old new a m' t a' = ⊥
+abbrev pub WholeAs : {X : Type 0} → Result X Fault → Meaning → Row → (old new : ColumnTable) → List ℕ → Meaning → ColumnTable → List ℕ → Type 0
+WholeAs (Ok x) m r old new a m' t a' = Whole m r old new a m' t a'
+WholeAs (Err f) m r old new a m' t a' = ⊥
 
 -- the places grew: the capacities are wide, or tight where the wide ones exceed the arena
 pub record Grew (m : Meaning) (r : Row) (old : ColumnTable) (a : List ℕ) (t : ColumnTable) (m' : Meaning) (a' : List ℕ) : Type 0 where

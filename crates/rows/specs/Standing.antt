@@ -1,5 +1,5 @@
 -- How a row stands in the places of a table: what a column's record says of its field, and the capacities that a row leaves.
-use Rattle.std.specs.Prelude.{◌≡◌, ℕ, suc, ◌+◌, ◌<◌, true, false, cond, List, [], ◌∷◌, map, length, take, Some, None, Option, nat_le, nat_lt, slice_index}
+use Rattle.std.specs.Prelude.{◌≡◌, ℕ, suc, ◌+◌, ◌<◌, true, false, cond, List, [], ◌∷◌, map, length, Some, None, Option, nat_le, nat_lt, slice_index}
 use Rattle.mysql.specs.declared.bind.Column.{Column}
 use Rattle.mysql.specs.Types.{size_of}
 use Rattle.host.specs.declared.records.Report.{Report}

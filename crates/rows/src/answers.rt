@@ -1,6 +1,6 @@
 // What a fetch answers.
 
-// What a fetch that is not refused answers; the numbers are those of MySQL's C API.
+// What a fetch that is not refused answers. An enum, and no Option or bool, since its numbers are those of MySQL's C API.
 #[derive(Clone, Copy)]
 pub enum Fetch {
     // A row is shown.

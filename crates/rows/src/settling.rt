@@ -5,12 +5,13 @@ ghost use Rattle.host.specs.Meanings.{Row};
 ghost use Rattle.layout.specs.Tables.{AllFit, NoneLost, LowestLost, Grown, SamePlaces};
 ghost use Rattle.rows.specs.Settling.{RowGot, Settled, RowIn, GrewAs, Half, WholeAs, PartInto};
 
-use host::{Host, Report};
+use host::{Host, Report, bind_all};
 use layout::ColumnTable;
 use mysql::{Fault, Refusal};
 
 // Notes what the host reported, refuses a row that lost a figure or needs more than the arena has, and otherwise lets the places grow
-// until the row stands there whole.
+// until the row stands there whole. Host, table and arena are lent one by one to the functions below: a struct of three `&mut`, made for
+// one call, would be no plainer.
 pub fn populate_dynamic_buffers<H: Host>(
     host: &mut H,
     table: &mut ColumnTable,
@@ -24,16 +25,11 @@ pub fn populate_dynamic_buffers<H: Host>(
     if let Some(k) = did_numeric_overflow_occur(table) {
         return Err(Fault::new(Refusal::NumericOverflow).at(k as u8));
     }
-    if table.fits() {
-        return Ok(());
+    if !table.fits() {
+        let new = grow(host, table, arena)?;
+        *table = new;
     }
-    match grow(host, table, arena) {
-        Ok(new) => {
-            *table = new;
-            Ok(())
-        }
-        Err(fault) => Err(fault),
-    }
+    Ok(())
 }
 
 // The lowest column of which a figure was lost, whether or not the row fits its places.
@@ -48,15 +44,12 @@ fn grow<H: Host>(host: &mut H, old: &ColumnTable, arena: &mut [u8]) -> Result<Co
     ensures fit { IfOk result AllFit }
     ensures came { (row : Row) → RowIn (H.Host.meaning host.old) row old.now arena.old → NoneLost old.now → GrewAs (H.Host.meaning host.old) row old.now arena.old result (H.Host.meaning host.new) arena.new }
 {
-    let Some(mut new) = old.grow(arena) else {
-        return Err(Fault::new(Refusal::NoRoom));
-    };
-    if !fetch_missing(host, old, &mut new, arena) || !new.fits() {
+    let mut new = old.grow(arena).ok_or(Fault::new(Refusal::NoRoom))?;
+    fetch_missing(host, old, &mut new, arena)?;
+    if !new.fits() {
         return Err(Fault::host(host.error_number()));
     }
-    if !host.bind(new.bind_records().as_slice()) {
-        return Err(Fault::host(host.error_number()));
-    }
+    bind_all(host, new.bind_records().as_slice())?;
     Ok(new)
 }
 
@@ -66,56 +59,36 @@ fn fetch_missing<H: Host>(
     old: &ColumnTable,
     new: &mut ColumnTable,
     arena: &mut [u8],
-) -> bool
+) -> Result<(), Fault>
     requires grown { Grown old.now new.old }
     requires room { old.now.room ≤ length arena.old }
     ensures places { SamePlaces new.old new.new }
     ensures came { (row : Row) → Half (H.Host.meaning host.old) row old.now new.old arena.old → WholeAs result (H.Host.meaning host.old) row old.now new.old arena.old (H.Host.meaning host.new) new.new arena.new }
 {
-    for i in 0..old.columns.len() {
-        let column = old.columns[i];
+    for (i, column) in old.columns.iter().enumerate() {
         if column.is_over() {
             let start = new.columns[i].start;
-            let length = column.length as usize;
-            let Some(report) = fetch_part(
-                host,
-                i,
-                column.capacity,
-                arena,
-                start + column.capacity,
-                start + length,
-            ) else {
-                return false;
-            };
+            let missing = &mut arena[start + column.capacity..start + column.length as usize];
+            let report = fetch_part(host, i, column.capacity, missing)?;
             new.note(i, report);
         }
     }
-    true
+    Ok(())
 }
 
-// Fetches a column from an offset on into a part of the arena.
+// Fetches a column from an offset on, as much of it as the part is long.
 fn fetch_part<H: Host>(
     host: &mut H,
     column: usize,
     offset: usize,
-    arena: &mut [u8],
-    from: usize,
-    to: usize,
-) -> Option<Report>
-    requires forward { from ≤ to }
-    requires within { to ≤ length arena.old }
-    ensures before { (p : ℕ) → p < from → slice_index arena.new p ≡ slice_index arena.old p }
-    ensures after { (p : ℕ) → to ≤ p → slice_index arena.new p ≡ slice_index arena.old p }
-    ensures came { (row : Row) (b : BindRecord) → PartInto (H.Host.meaning host.old) row b column offset result (H.Host.meaning host.new) from to arena.new }
+    part: &mut [u8],
+) -> Result<Report, Fault>
+    ensures { (row : Row) (b : BindRecord) → PartInto (H.Host.meaning host.old) row b column offset result (H.Host.meaning host.new) 0 (length part.new) part.new }
 {
-    let mut report = Report {
-        length: 0,
-        is_null: false,
-        is_truncated: false,
-    };
-    if host.fetch_column(column, offset, &mut arena[from..to], &mut report) {
-        Some(report)
+    let mut report = Report::default();
+    if host.fetch_column(column, offset, part, &mut report) {
+        Ok(report)
     } else {
-        None
+        Err(Fault::host(host.error_number()))
     }
 }

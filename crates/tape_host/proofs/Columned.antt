@@ -1,7 +1,7 @@
 -- A tape's columns, and what may be bound to them.
 -- Assumes nothing.
 use Rattle.std.proofs.Common.{◌≡◌, ℕ, zero, suc, ◌+◌, ◌<◌, ◌≤◌, true, false, ◌&&◌, eqb, List, [], ◌∷◌, map, length, get_or, drop, None, sym, refl, ap, ◌∙◌, arith}
-use Rattle.std.proofs.lemmas.List.{drop_more, take_all}
+use Rattle.std.proofs.lemmas.List.{drop_more}
 use Rattle.std.proofs.lemmas.Bool.{eq-eqb, ne_eqb}
 use Rattle.mysql.specs.declared.bind.Column.{Column}
 use Rattle.host.specs.declared.records.BindRecord.{BindRecord}
@@ -12,14 +12,8 @@ use Rattle.tape.specs.Decode.{taken, broken, take_column}
 use Rattle.tape.specs.Views.{columns_in, events_in}
 use Rattle.tape.specs.Recordings.{contents_in}
 use Rattle.tape.proofs.Walked.{columns_first, columns_none}
-use Rattle.tape.proofs.Counted.{columns_front}
-use Rattle.tape_host.specs.Tapes.{own_code, event_shown, first_columns, Holds}
+use Rattle.tape_host.specs.Tapes.{own_code, event_shown, Holds}
 use Rattle.tape_host.specs.Wholes.{own_codes}
-
--- a recording's columns are few
-
-pub all_columns : (bs : List ℕ) → length (columns_in bs) ≤ 64 → first_columns bs ≡ columns_in bs
-all_columns bs l = columns_front 64 bs ∙ take_all 64 (columns_in bs) l
 
 -- what a new tape means
 abbrev pub new_means : List Column → (events : List ℕ) (count : ℕ) → Meaning
@@ -32,22 +26,19 @@ new_means cs events count = record {
   error = 0;
 }
 
-pub new_holds : (bytes columns events : List ℕ) (count : ℕ) (k : Contents) → k ≡ contents_in columns events count → TapeOf bytes k → Holds bytes (new_means (first_columns columns) events count)
-new_holds bytes columns events count k e h =
-    let l : length (columns_in columns) ≤ 64 = omega (arith, h.narrow, ap (λ (x : Contents). length x.columns) e) in
-    let a = all_columns columns l in
-    record {
-      contents = k;
-      is_tape = h;
-      fresh = record {
-        columns = a ∙ sym (ap (λ (x : Contents). x.columns) e);
-        carries = ap own_code (a ∙ sym (ap (λ (x : Contents). x.columns) e));
-        coming = ap (λ cs. map event_shown (events_in cs count events)) a ∙ sym (ap (λ (x : Contents). map event_shown x.events) e);
-        no_row = refl;
-        not_bound = refl;
-        no_error = refl;
-      };
-    }
+pub new_holds : (bytes columns events : List ℕ) (count : ℕ) (k : Contents) → k ≡ contents_in columns events count → TapeOf bytes k → Holds bytes (new_means (columns_in columns) events count)
+new_holds bytes columns events count k e h = record {
+  contents = k;
+  is_tape = h;
+  fresh = record {
+    columns = sym (ap (λ (x : Contents). x.columns) e);
+    carries = ap own_code (sym (ap (λ (x : Contents). x.columns) e));
+    coming = sym (ap (λ (x : Contents). map event_shown x.events) e);
+    no_row = refl;
+    not_bound = refl;
+    no_error = refl;
+  };
+}
 
 -- codes that are asked for, one column after the other
 

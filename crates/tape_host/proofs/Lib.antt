@@ -1,4 +1,3 @@
 pub mod Columned
 pub mod Copied
-pub mod Rowed
 pub mod Called

@@ -1,16 +1,14 @@
 -- What a tape means keeps to what every host's meaning keeps to.
 use Rattle.std.proofs.Common.{sym, subst, arith}
-use Rattle.std.specs.Prelude.{ℕ, List, [], ◌∷◌, map, length, get_or, take, Some, None, Option, ◌==◌, nat_lt, slice_index_or}
+use Rattle.std.specs.Prelude.{ℕ, List, [], ◌∷◌, map, length, get_or, Some, None, Option, ◌==◌, nat_lt, slice_index_or}
 use Rattle.std.specs.Borrow.{Bor}
 use Rattle.std.specs.List.{AllByRecursion}
 use Rattle.std.proofs.lemmas.Bool.{eqb-true, and_parts}
-use Rattle.std.proofs.lemmas.List.{length-take}
 use Rattle.host.specs.Fields.{Field, null, FieldAt}
 use Rattle.host.specs.Meanings.{Formed, RowFits, EventFits, CurrentFits, no_column}
 use Rattle.tape.specs.Format as recorded
 use Rattle.tape.specs.Views.{fields_in}
 use Rattle.tape.proofs.Fitting.{Fitting, fields_fit, events_fit, columns_fit}
-use Rattle.tape.proofs.Counted.{columns_count}
 use Rattle.tape_host.specs.declared.tapes.Tape.{Tape}
 use Rattle.tape_host.specs.Tapes.{shown, event_shown, columns_of, current_of, means}
 
@@ -33,8 +31,8 @@ current_fits t (Some bs) = row_fits t (fields_in (columns_of t) bs.now) (fields_
 
 pub formed : (t : Tape) → Formed (means t)
 formed t = record {
-  few = let h = columns_count (take 320 t.columns.now) in let l = length-take 320 t.columns.now in omega arith;
-  columns_fit = columns_fit (take 320 t.columns.now);
+  few = t.few;
+  columns_fit = columns_fit t.columns.now;
   coming_fit = events_fit_in t _ (events_fit (columns_of t) t.left t.events.now);
   current_fit = current_fits t t.current;
   error_fits = omega arith;

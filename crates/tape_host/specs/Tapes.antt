@@ -1,6 +1,7 @@
 -- What a tape means as a host: the columns of a recording, each carrying its own code only, alike at both signs, and its events.
-use Rattle.std.specs.Prelude.{◌≡◌, ℕ, min, Bool, cond, ◌&&◌, List, [], map, length, get_or, take, Some, None, is_some, Ok, Err, Option, Result, ◌==◌, nat_lt, slice_index_or}
+use Rattle.std.specs.Prelude.{◌≡◌, ℕ, min, Bool, ◌&&◌, List, [], map, length, get_or, take, Some, None, Ok, Err, Option, Result, ◌==◌, nat_lt, slice_index_or}
 use Rattle.std.specs.Borrow.{Bor}
+use Rattle.std.specs.Option.{option_map, unwrap_or}
 use Rattle.mysql.specs.declared.bind.Column.{Column}
 use Rattle.mysql.specs.declared.fault.Fault.{Fault}
 use Rattle.mysql.specs.declared.fault.Refusal.TheVariants.{BrokenTape}
@@ -8,7 +9,6 @@ use Rattle.mysql.specs.Faults.{refused}
 use Rattle.host.specs.declared.records.BindRecord.{BindRecord}
 use Rattle.host.specs.Fields.{Field, null}
 use Rattle.host.specs.Meanings.{Row, Event, row, failure, Meaning, no_column}
-use Rattle.host.specs.Calls.{in_order}
 use Rattle.tape.specs.Format as recorded
 use Rattle.tape.specs.Views.{columns_in, fields_in, events_in}
 use Rattle.tape_host.specs.declared.tapes.Tape.{Tape}
@@ -25,28 +25,19 @@ abbrev pub event_shown : recorded.Event → Event
 event_shown (recorded.row fs) = row (shown fs)
 event_shown (recorded.failure n) = failure n
 
--- the columns that lie in bytes: five bytes each, and at most 64 of them
-abbrev pub first_columns : List ℕ → List Column
-first_columns bs = columns_in (take 320 bs)
-
 abbrev pub columns_of : Tape → List Column
-columns_of t = first_columns t.columns.now
+columns_of t = columns_in t.columns.now
 
 abbrev pub current_of : List Column → Option (Bor (List ℕ)) → Option Row
 current_of cs None = None
 current_of cs (Some bs) = Some (shown (fields_in cs bs.now))
 
--- the records of the columns, at the front of what is bound
-abbrev pub front : ℕ → Option (List BindRecord) → List BindRecord
-front n None = []
-front n (Some records) = take n records
+-- the bind list, at the front of what is bound, and the places of the columns: none where there is no bind list
+abbrev pub bound_of : Tape → Option (List BindRecord)
+bound_of t = option_map (take (length (columns_of t))) t.records
 
--- where the columns are bound to; places that are out of order were never bound
 abbrev pub places_of : Tape → List BindRecord
-places_of t = front (length (columns_of t)) t.records
-
-abbrev pub is_bound : Tape → Bool
-is_bound t = is_some t.records && in_order 0 (places_of t)
+places_of t = unwrap_or (bound_of t) []
 
 abbrev pub means : Tape → Meaning
 means t = record {
@@ -54,7 +45,7 @@ means t = record {
   carries = own_code (columns_of t);
   coming = map event_shown (events_in (columns_of t) t.left t.events.now);
   current = current_of (columns_of t) t.current;
-  bound = cond (is_bound t) (Some (places_of t)) None;
+  bound = bound_of t;
   error = min t.error 65535;
 }
 

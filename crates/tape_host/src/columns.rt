@@ -1,5 +1,5 @@
 // The columns of a tape, found in their bytes.
-ghost use Rattle.std.specs.Prelude.{◌≡◌, true, false, length, take, slice_index_or};
+ghost use Rattle.std.specs.Prelude.{◌≡◌, true, false, length, slice_index_or};
 ghost use Rattle.host.specs.Meanings.{no_column};
 ghost use Rattle.tape.specs.Views.{columns_in};
 ghost use Rattle.tape_host.specs.Wholes.{own_codes};
@@ -11,27 +11,13 @@ use tape::take_column;
 // How many bytes a column takes.
 const COLUMN_SIZE: usize = 5;
 
-// The bytes of the most columns that a tape has.
-const COLUMNS_SIZE: usize = 320;
-
-// The bytes of at most 64 columns.
-pub(crate) fn first_columns(columns: &[u8]) -> &[u8]
-    ensures { result.now ≡ take 320 columns.now }
-{
-    if columns.len() > COLUMNS_SIZE {
-        &columns[..COLUMNS_SIZE]
-    } else {
-        columns
-    }
-}
-
 pub(crate) fn count_columns(columns: &[u8]) -> usize
     ensures { result ≡ length (columns_in columns.now) }
 {
     columns.len() / COLUMN_SIZE
 }
 
-// A column; past the last one it has code 6 and flags 0.
+// A column, by its place among the bytes, so that asking for each column stays linear; past the last one it has code 6 and flags 0.
 pub(crate) fn column_at(columns: &[u8], i: usize) -> Column
     ensures { result ≡ slice_index_or (columns_in columns.now) i no_column }
 {
@@ -44,7 +30,7 @@ pub(crate) fn column_at(columns: &[u8], i: usize) -> Column
     }
 }
 
-// Whether each record asks for its column's own code.
+// Whether each record asks for its column's own code. A loop, since each turn takes a column off the bytes.
 pub(crate) fn asks_own_codes(columns: &[u8], records: &[BindRecord]) -> bool
     ensures { result ≡ own_codes (columns_in columns.now) records.now }
 {

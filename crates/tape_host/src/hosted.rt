@@ -1,10 +1,10 @@
 // A tape is a host.
 ghost use Rattle.std.specs.Prelude.{◌≡◌, false};
-ghost use Rattle.host.specs.Calls.{number_of};
+ghost use Rattle.host.specs.Calls.{with_error, number_of};
 ghost use Rattle.tape_host.specs.Tapes.{means};
 ghost use Rattle.tape_host.specs.Formeds.{formed};
 
-use crate::columns::{asks_own_codes, column_at, count_columns, first_columns};
+use crate::columns::{asks_own_codes, column_at, count_columns};
 use crate::events::next_event;
 use crate::places::{all_end_by, are_in_order, copy_records};
 use crate::tapes::Tape;
@@ -17,7 +17,7 @@ impl Tape<'_> {
     // Refuses a call, for this reason.
     fn refuse(&mut self, why: ClientError) -> bool
         ensures refused { result ≡ false }
-        ensures after { self.new ≡ record self.old { error = number_of why } }
+        ensures after { means self.new ≡ with_error (number_of why) (means self.old) }
     {
         self.error = why as u16;
         false
@@ -30,11 +30,11 @@ impl Host for Tape<'_> {
     ghost formed = { formed };
 
     fn column_count(&self) -> usize {
-        count_columns(first_columns(self.columns))
+        count_columns(self.columns)
     }
 
     fn column(&self, i: usize) -> Column {
-        column_at(first_columns(self.columns), i)
+        column_at(self.columns, i)
     }
 
     fn error_number(&self) -> u16 {
@@ -42,15 +42,14 @@ impl Host for Tape<'_> {
     }
 
     fn can_fetch(&self, arena: usize, reports: usize) -> bool {
-        self.is_bound() && all_end_by(arena, self.places()) && reports == self.column_count()
+        self.records.is_some() && all_end_by(arena, self.places()) && reports == self.column_count()
     }
 
     fn bind(&mut self, records: &[BindRecord]) -> bool {
-        let columns = first_columns(self.columns);
-        if records.len() != count_columns(columns) || !are_in_order(records) {
+        if records.len() != self.column_count() || !are_in_order(records) {
             return self.refuse(ClientError::InvalidParameter);
         }
-        if !asks_own_codes(columns, records) {
+        if !asks_own_codes(self.columns, records) {
             return self.refuse(ClientError::UnsupportedType);
         }
         self.records = Some(copy_records(records));
@@ -63,8 +62,7 @@ impl Host for Tape<'_> {
             self.refuse(ClientError::InvalidParameter);
             return Fetched::Failed;
         }
-        let columns = first_columns(self.columns);
-        let Some((event, rest)) = next_event(columns, self.left, self.events) else {
+        let Some((event, rest)) = next_event(self.columns, self.left, self.events) else {
             self.left = 0;
             self.current = None;
             self.error = 0;
@@ -100,12 +98,15 @@ impl Host for Tape<'_> {
         let Some(bytes) = self.current else {
             return self.refuse(ClientError::NoData);
         };
-        if column >= self.places().len() || !self.is_bound() {
+        if column >= self.places().len() {
             return self.refuse(ClientError::InvalidParameter);
         }
         self.error = 0;
-        let columns = first_columns(self.columns);
-        let field = field_at(Row { columns, bytes }, column);
+        let row = Row {
+            columns: self.columns,
+            bytes,
+        };
+        let field = field_at(row, column);
         *report = write_field(field, offset, part);
         true
     }

@@ -1,9 +1,8 @@
 // How a tape is opened, and what is bound to it.
 ghost use Rattle.std.specs.Prelude.{◌≡◌, true, length, is_some};
-ghost use Rattle.tape_host.specs.Tapes.{columns_of, places_of, is_bound, Opened};
+ghost use Rattle.tape_host.specs.Tapes.{columns_of, bound_of, places_of, Opened};
 
-use crate::columns::{count_columns, first_columns};
-use crate::places::are_in_order;
+use crate::columns::count_columns;
 use crate::tapes::Tape;
 use host::BindRecord;
 use mysql::Fault;
@@ -29,18 +28,11 @@ impl<'a> Tape<'a> {
     // The records of its columns; none where there is no bind list.
     pub(crate) fn places(&self) -> &[BindRecord]
         ensures are { result.now ≡ places_of self.now }
-        ensures counted { is_some self.now.records ≡ true → length result.now ≡ length (columns_of self.now) }
+        ensures counted { is_some (bound_of self.now) ≡ true → length result.now ≡ length (columns_of self.now) }
     {
         match &self.records {
-            Some(records) => &records[..count_columns(first_columns(self.columns))],
+            Some(records) => &records[..count_columns(self.columns)],
             None => &[],
         }
-    }
-
-    // Whether there is a bind list. Records that are out of order are none, though `bind` never leaves such.
-    pub(crate) fn is_bound(&self) -> bool
-        ensures { result ≡ is_bound self.now }
-    {
-        self.records.is_some() && are_in_order(self.places())
     }
 }

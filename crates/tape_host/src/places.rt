@@ -10,7 +10,7 @@ fn end_of(place: BindRecord) -> u128
     place.start as u128 + place.capacity as u128
 }
 
-// Whether no place begins before the one before it ends.
+// Whether no place begins before the one before it ends. A loop, since the first has none before it to be compared with.
 pub(crate) fn are_in_order(records: &[BindRecord]) -> bool
     ensures { result ≡ in_order 0 records.now }
 {

@@ -75,6 +75,7 @@ pub(crate) fn write_row(
 {
     let mut fields = row.fields();
     let mut truncated = false;
+    // The reports are written by index: no invariant can name what they hold while they are lent to a zip.
     for (i, place) in places.iter().enumerate() {
         let end = place.start + place.capacity;
         let field = next_field(&mut fields);

@@ -1,15 +1,14 @@
 -- A row of a tray, written to its place.
 -- Assumes nothing.
 use borrow.Rule.Slice.PartMut.{put_mid}
-use Rattle.std.proofs.Common.{◌≡◌, ℕ, suc, ◌+◌, ◌-◌, ◌<◌, ◌≤◌, Bool, true, cond, ltb, List, [], ◌∷◌, length, get_or, set, Option, Some, None, is_some, sym, refl, ap, ◌∙◌, subst, ⊎_elim, arith, lit<}
-use Rattle.std.proofs.lemmas.List.{get_or-set_same, length-set}
-use Rattle.std.proofs.lemmas.Bool.{cases_lt}
+use Rattle.std.proofs.Common.{◌≡◌, ◌&&◌, ℕ, suc, ◌+◌, ◌-◌, ◌<◌, Bool, true, false, cond, ltb, List, [], ◌∷◌, length, get_or, set, Option, Some, None, is_some, refl, ap, ◌∙◌, arith}
+use Rattle.std.proofs.lemmas.List.{length-set}
+use Rattle.std.proofs.lemmas.Bool.{le-leb}
 use Rattle.host.specs.declared.records.BindRecord.{BindRecord}
 use Rattle.host.specs.declared.records.Report.{Report}
 use Rattle.host.specs.Meanings.{row}
-use Rattle.host.specs.Calls.{no_record, no_report, allows, from_offset, truncates, Reported, PartReported, Stands, RowCame, record_of}
-use Rattle.host.proofs.Placed.{put_inside, put_below, put_above, whole_reported, truncates_is, whole_stands}
-use Rattle.std.proofs.Math.Bool.{or-false}
+use Rattle.host.specs.Calls.{in_order, no_record, allows, from_offset, PartReported, Stands, RowCame, record_of}
+use Rattle.host.proofs.Written.{none_written, more_written, all_written}
 use Rattle.tray.specs.declared.tray.Tray.{Tray}
 use Rattle.tray.specs.Rows.{field_of_row, tray_row, rows_from}
 use Rattle.tray.specs.Trays.{bound_to, means, Inside}
@@ -24,14 +23,11 @@ record_bound t column h e = bound_in t.place h
     bound_in (Some b) h = (b, ap (λ (k : ℕ). cond (ltb k 1) (Some (get_or (b ∷ []) k no_record)) None) e)
 
 module _ (t : Tray) (place : BindRecord) (reports : List Report) (arena part : List ℕ) (report : Report) (k : ℕ) where
-  abbrev start : ℕ
-  start = place.start
-
   abbrev long : ℕ
-  long = start + place.capacity - start
+  long = place.start + place.capacity - place.start
 
   abbrev arena' : List ℕ
-  arena' = put_mid start long arena part
+  arena' = put_mid place.start long arena part
 
   -- the tray after a row was taken off
   abbrev taken : Tray
@@ -44,13 +40,14 @@ module _ (t : Tray) (place : BindRecord) (reports : List Report) (arena part : L
   row_came z ok at hk some same lp n hn told there hz =
       let inside = at.ends in
       let one = at.one_report in
-      let cap = place.capacity in
-      let size : n ≡ cap = omega arith in
-      let f = field_of_row k in
-      let whole = whole_reported f cap report (subst (λ (n : ℕ). PartReported f 0 n report) size told) in
+      let size : long ≡ place.capacity = omega arith in
       let more : t.rows - t.taken ≡ suc (t.rows - (t.taken + 1)) = omega arith in
       let this : t.taken + 1 ≡ k = omega arith in
       let next : suc k ≡ t.taken + 1 + 1 = omega arith in
+      let ordered : in_order 0 (place ∷ []) ≡ true = ap (λ b. b && true) (le-leb 0 place.start (omega arith)) in
+      let w = all_written (tray_row k) (place ∷ []) (set reports 0 report) arena arena' report.is_truncated 1 refl same
+      (more_written (tray_row k) (place ∷ []) reports arena arena false 0 (none_written (tray_row k) (place ∷ []) reports arena) ordered (omega arith) (omega arith) long part report inside size lp
+      (field_of_row k) refl n (hn ∙ size) told there) in
       record {
         allowed = ok;
         places = place ∷ [];
@@ -60,23 +57,8 @@ module _ (t : Tray) (place : BindRecord) (reports : List Report) (arena part : L
         next = ap (rows_from (t.taken + 1)) more ∙ ap (λ (n : ℕ). row (tray_row n) ∷ rows_from (suc n) (t.rows - (t.taken + 1))) this ∙ ap (λ (n : ℕ). row (tray_row k) ∷ rows_from n (t.rows - (t.taken + 1))) next;
         after = refl;
         as_many_reports = length-set reports 0 report;
-        reported = λ i l.
-            let z0 : 0 ≡ i = omega arith in
-            subst (λ (n : ℕ). Reported f (get_or (place ∷ []) n no_record).capacity (get_or (set reports 0 report) n no_report)) z0
-            (subst (λ (r : Report). Reported f cap r) (sym (get_or-set_same reports 0 report no_report (omega arith))) whole);
-        stands = λ i l.
-            let z0 : 0 ≡ i = omega arith in
-            subst (λ (n : ℕ). Stands f (get_or (place ∷ []) n no_record).start (get_or (place ∷ []) n no_record).capacity arena') z0
-            (whole_stands f start cap part arena' (λ j m. put_inside start long arena part (omega arith) lp j (omega arith)) (subst (λ (n : ℕ). Stands (from_offset 0 f) 0 n part) size there));
-        untouched = record {
-          same_length = same;
-          same_bytes = λ p out. ⊎_elim
-              (λ (h : p < start). put_below start long arena part (omega arith) lp p h)
-              (λ (h : start ≤ p). ⊎_elim
-              (λ (g : p < start + cap). absurd (out (0, lit< tt, h, g)))
-              (λ (g : start + cap ≤ p). put_above start long arena part (omega arith) lp p (omega arith))
-              (cases_lt p (start + cap)))
-              (cases_lt p start);
-        };
-        marked = or-false (truncates f cap) ∙ truncates_is f cap report whole ∙ hz;
+        reported = w.reported;
+        stands = w.stands;
+        untouched = w.untouched;
+        marked = w.marked ∙ hz;
       }

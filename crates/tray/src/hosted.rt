@@ -1,6 +1,6 @@
 // A tray is a host.
 ghost use Rattle.std.specs.Prelude.{◌≡◌, false, is_some, IfSome};
-ghost use Rattle.host.specs.Calls.{allows, number_of};
+ghost use Rattle.host.specs.Calls.{with_error, allows, number_of};
 ghost use Rattle.tray.specs.Trays.{Inside, means};
 ghost use Rattle.tray.specs.Formeds.{formed};
 
@@ -26,7 +26,7 @@ impl Tray {
     // Refuses a call, for this reason.
     fn refuse(&mut self, why: ClientError) -> bool
         ensures refused { result ≡ false }
-        ensures after { self.new ≡ record self.old { error = number_of why } }
+        ensures after { means self.new ≡ with_error (number_of why) (means self.old) }
     {
         self.error = why as u16;
         false

@@ -1,55 +1,39 @@
-use Rattle.std.proofs.Common.{◌≡◌, ℕ, ◌+◌, ◌≤◌, get_or, List, length, sym, refl, ap, ◌∙◌, subst, arith, rules}
+use Rattle.std.proofs.Common.{◌≡◌, ℕ, ◌+◌, ◌-◌, ◌<◌, ◌≤◌, List, length, get_or, sym, refl, ap, ◌∙◌, subst, arith, rules}
 use Rattle.host.specs.Meanings.{Meaning}
+use Rattle.host.specs.Calls.{record_of}
 use Rattle.layout.specs.declared.record.ColumnRecord.{ColumnRecord}
 use Rattle.layout.specs.declared.table.ColumnTable.{ColumnTable}
 use Rattle.layout.specs.Columns.{no_record, Over, bind_of}
-use Rattle.layout.specs.Tables.{col, start, SamePlaces}
+use Rattle.layout.specs.Tables.{count_of, col, SamePlaces}
 use Rattle.layout.proofs.Fitting.{fits_unless_over}
 use Rattle.layout.proofs.Noting.{same_places}
-use Rattle.rows.specs.Settling.{PartGot, column_field}
 use Rattle.rows.proofs.Columned.{bound_at}
-use Rattle.rows.proofs.Wholes.{WholeTo, whole_none, whole_skip, whole_more, over_inside, same_start}
+use Rattle.rows.proofs.Wholes.{WholeTo, whole_none, whole_skip, whole_fetched, missing_inside}
 use Rattle.rows.proofs.settling.fetch_missing.Goals as goal
-use Rattle.rows.proofs.settling.fetch_missing.Goals.{then-is_over+in-Some, else-is_over}
+use Rattle.rows.proofs.settling.fetch_missing.Goals.{then-is_over+in_ok-report, else-is_over}
 
-abbrev begins : ColumnRecord → ℕ
-begins c = c.start
+-- where a column is over, what is missing of it lies inside the arena
+missing_fits : (g : Rattle.rows.proofs.settling.fetch_missing.Given.Over) (c : goal.After-deref g)
+    → (get_or c.deref.result.now c.loop-i.i no_record).start + (get_or c.deref-column-items.result.now c.loop-i.i no_record).length ≤ length c.loop-i.arena
+missing_fits g c =
+    let at = ap (λ (z : List ColumnRecord). get_or z c.loop-i.i no_record) c.deref-column-items.ensures.0 in
+    let to = ap (λ (z : List ColumnRecord). get_or z c.loop-i.i no_record) c.deref.ensures.0 in
+    omega (arith, c.requires.room, c.loop-i.auto.arena, missing_inside c.args.old.now c.args.new.now c.loop-i.new c.requires.grown c.loop-i.invariant.0 c.loop-i.i (omega (arith, c.loop-i-test.true, ap length c.deref-column-items.ensures.0)) _ _ at to (c.is_over.ensures.yes c.if-is_over.true))
 
-abbrev capacity : ColumnRecord → ℕ
-capacity c = c.capacity
+pub overflow_add-missing : goal.overflow_add-missing
+overflow_add-missing g c = let z = missing_fits g c in let o = (c.is_over.ensures.yes c.if-is_over.true).longer in search rules
 
-abbrev told : ColumnRecord → ℕ
-told c = c.length
+pub overflow_add-missing-then-is_over : goal.overflow_add-missing-then-is_over
+overflow_add-missing-then-is_over g c = let z = missing_fits g c in let o = (c.is_over.ensures.yes c.if-is_over.true).longer in search rules
 
-pub overflow_add-start : goal.overflow_add-start
-overflow_add-start g c =
-    let old = c.args.old.now in let new = c.args.new.now in let t = c.loop-i.new in let i = c.loop-i.i in
-    let at = ap (λ (z : List ColumnRecord). get_or z i no_record) c.deref.ensures.0 in
-    let to = ap (λ (z : List ColumnRecord). get_or z i no_record) c.deref-then-is_over.ensures.0 in
-    let o = subst Over at (c.is_over.ensures.yes c.if-is_over.true) in
-    let h = over_inside old new c.requires.grown i (omega (arith, c.len-i-end.ensures.value)) o in
-    let z : (get_or c.deref-then-is_over.result.now i no_record).start + (get_or c.deref.result.now i no_record).capacity ≤ length c.args.arena.now = omega (arith, ap begins to, ap capacity at, ap told at, h, c.requires.room, o.longer, same_start new t c.loop-i.invariant.0 i (omega (arith, c.requires.grown.laid.count))) in
-    search rules
+pub slice_bounds-missing-start : goal.slice_bounds-missing-start
+slice_bounds-missing-start g c = let z = missing_fits g c in let o = (c.is_over.ensures.yes c.if-is_over.true).longer in search rules
 
-pub overflow_add-start-then-is_over : goal.overflow_add-start-then-is_over
-overflow_add-start-then-is_over g c =
-    let old = c.args.old.now in let new = c.args.new.now in let t = c.loop-i.new in let i = c.loop-i.i in
-    let at = ap (λ (z : List ColumnRecord). get_or z i no_record) c.deref.ensures.0 in
-    let to = ap (λ (z : List ColumnRecord). get_or z i no_record) c.deref-then-is_over.ensures.0 in
-    let o = subst Over at (c.is_over.ensures.yes c.if-is_over.true) in
-    let h = over_inside old new c.requires.grown i (omega (arith, c.len-i-end.ensures.value)) o in
-    let z : (get_or c.deref-then-is_over.result.now i no_record).start + (get_or c.deref.result.now i no_record).length ≤ length c.args.arena.now = omega (arith, ap begins to, ap capacity at, ap told at, h, c.requires.room, same_start new t c.loop-i.invariant.0 i (omega (arith, c.requires.grown.laid.count))) in
-    search rules
+pub slice_bounds-missing-end : goal.slice_bounds-missing-end
+slice_bounds-missing-end g c = let z = missing_fits g c in let o = (c.is_over.ensures.yes c.if-is_over.true).longer in search rules
 
-pub fetch_part-requires : goal.fetch_part-requires
-fetch_part-requires g c =
-    let old = c.args.old.now in let new = c.args.new.now in let t = c.loop-i.new in let i = c.loop-i.i in
-    let at = ap (λ (z : List ColumnRecord). get_or z i no_record) c.deref.ensures.0 in
-    let to = ap (λ (z : List ColumnRecord). get_or z i no_record) c.deref-then-is_over.ensures.0 in
-    let o = subst Over at (c.is_over.ensures.yes c.if-is_over.true) in
-    let h = over_inside old new c.requires.grown i (omega (arith, c.len-i-end.ensures.value)) o in
-    let z : (get_or c.deref-then-is_over.result.now i no_record).start + (get_or c.deref.result.now i no_record).length ≤ length c.loop-i.arena = omega (arith, ap begins to, ap capacity at, ap told at, h, c.requires.room, same_start new t c.loop-i.invariant.0 i (omega (arith, c.requires.grown.laid.count))) in
-    record { forward = omega (arith, ap capacity at, ap told at, o.longer); within = z }
+pub slice_bounds-missing-count : goal.slice_bounds-missing-count
+slice_bounds-missing-count g c = let z = missing_fits g c in let o = (c.is_over.ensures.yes c.if-is_over.true).longer in search rules
 
 pub loop-i-init : goal.loop-i-init
 loop-i-init g c = (
@@ -57,17 +41,16 @@ loop-i-init g c = (
   λ row half. whole_none c.args.old.now c.args.new.now c.requires.grown (g.H.Host.meaning c.args.host.now) row c.args.arena.now half,
 )
 
-pub returns-in_default : goal.returns-in_default
-returns-in_default g c = record {
+pub returns-in_err-report : goal.returns-in_err-report
+returns-in_err-report g c = record {
   places = c.loop-i.invariant.0;
   came = λ row half.
       let old = c.args.old.now in let i = c.loop-i.i in
-      let m = g.H.Host.meaning c.args.host.now in
-      let w = c.loop-i.invariant.1 row half in
-      let n = g.H.Host.meaning c.loop-i.host in
-      c.in_default.ensures.came row (bind_of (col old i))
-      (ap (λ (x : Meaning). x.current) w.host ∙ half.current.current)
-      (ap (λ (x : Meaning). Rattle.host.specs.Calls.record_of x i) w.host ∙ bound_at m row old half.current i (omega (arith, c.len-i-end.ensures.value)));
+      let l : i < count_of old = omega (arith, c.loop-i-test.true, ap length c.deref-column-items.ensures.0) in
+      let so_far = c.loop-i.invariant.1 row half in
+      absurd (c.in_err-report.ensures row (bind_of (col old i))
+      (ap (λ (x : Meaning). x.current) so_far.host ∙ half.current.current)
+      (ap (λ (x : Meaning). record_of x i) so_far.host ∙ bound_at (g.H.Host.meaning c.args.host.now) row old half.current i l));
 }
 
 pub loop-i-preserved : goal.loop-i-preserved
@@ -76,41 +59,35 @@ loop-i-preserved g c =
     let gr = c.requires.grown in
     let m = g.H.Host.meaning c.args.host.now in
     let n = g.H.Host.meaning c.loop-i.host in
-    let a = c.args.arena.now in
-    let t = c.loop-i.new in
-    let b = c.loop-i.arena in
+    let a = c.args.arena.now in let t = c.loop-i.new in let b = c.loop-i.arena in
     let sp = c.loop-i.invariant.0 in
-    let same = same_start new t sp i (omega (arith, gr.laid.count)) in
-    let at = ap (λ (z : List ColumnRecord). get_or z i no_record) c.deref.ensures.0 in
+    let l : i < count_of old = omega (arith, c.loop-i-test.true, ap length c.deref-column-items.ensures.0) in
+    let at = ap (λ (z : List ColumnRecord). get_or z i no_record) c.deref-column-items.ensures.0 in
     elim c.if-is_over.branch [
-      | then-is_over+in-Some w ↦
-          let o : Over (col old i) = subst Over at (c.is_over.ensures.yes w.if-is_over.true) in
-          let st : (get_or w.deref-then-is_over.result.now i no_record).start ≡ start new i = ap (λ (z : List ColumnRecord). (get_or z i no_record).start) w.deref-then-is_over.ensures.0 ∙ same in
-          let cap = ap capacity at in let len = ap told at in
+      | then-is_over+in_ok-report w ↦
+          let o = c.is_over.ensures.yes w.if-is_over.true in
           let u = w.note.new.self in
-          let b' = w.fetch_part.new.arena in
           let n' = g.H.Host.meaning w.fetch_part.new.host in
-          let report = w.in-Some.report in (
+          let room : old.room ≤ length b = omega (arith, c.requires.room, c.loop-i.auto.arena) in
+          let to = ap (λ (z : List ColumnRecord). get_or z i no_record) w.deref.ensures.0 in
+          let z = missing_inside old new t gr sp i l _ _ at to o in
+          let longer = o.longer in (
             subst (λ (z : ColumnTable). SamePlaces new z) (sym w.new-is) (same_places new t u sp w.note.ensures.places),
             λ row half.
-                let to = c.loop-i.invariant.1 row half in
-                let got = subst (λ (d : ColumnRecord). PartGot n (column_field row old i) d.capacity report n' ((get_or w.deref-then-is_over.result.now i no_record).start + d.capacity) ((get_or w.deref-then-is_over.result.now i no_record).start + d.length) b') at (w.in-Some.ensures.came row (bind_of (col old i))
-                (ap (λ (x : Meaning). x.current) to.host ∙ half.current.current)
-                (ap (λ (x : Meaning). Rattle.host.specs.Calls.record_of x i) to.host ∙ bound_at m row old half.current i (omega (arith, c.len-i-end.ensures.value)))) in
-                let step = whole_more old new gr m row a half i (omega (arith, c.len-i-end.ensures.value)) n t b to n' u b' report o sp
-                (λ p h. w.fetch_part.ensures.before p (omega (arith, st, cap)))
-                (λ p h. w.fetch_part.ensures.after p (omega (arith, st, len)))
-                (subst (λ (s : ℕ). PartGot n (column_field row old i) (col old i).capacity report n' (s + (col old i).capacity) (s + (col old i).length) b') st got)
-                w.note.ensures.noted in
+                let so_far = c.loop-i.invariant.1 row half in
+                let got = w.in_ok-report.ensures row (bind_of (col old i))
+                (ap (λ (x : Meaning). x.current) so_far.host ∙ half.current.current)
+                (ap (λ (x : Meaning). record_of x i) so_far.host ∙ bound_at m row old half.current i l) in
+                let long : length w.fetch_part.new.part ≡ (get_or w.deref.result.now i no_record).start + (get_or c.deref-column-items.result.now i no_record).length - ((get_or w.deref.result.now i no_record).start + (get_or c.deref-column-items.result.now i no_record).capacity) = search rules in
+                let step = whole_fetched old new gr m row a half i l n t b so_far sp _ _ at to o room n' u c.if-is_over.arena w.in_ok-report.report w.fetch_part.new.part long w.arena-is got w.note.ensures.noted in
                 subst (λ (z : Meaning). WholeTo (i + 1) m row old new a z c.if-is_over.new c.if-is_over.arena) (sym (ap g.H.Host.meaning w.host-is))
-                (subst (λ (z : ColumnTable). WholeTo (i + 1) m row old new a n' z c.if-is_over.arena) (sym w.new-is)
-                (subst (λ (z : List ℕ). WholeTo (i + 1) m row old new a n' u z) (sym w.arena-is) step)),
+                (subst (λ (z : ColumnTable). WholeTo (i + 1) m row old new a n' z c.if-is_over.arena) (sym w.new-is) step),
           )
       | else-is_over w ↦
-          let fit = fits_unless_over old i (omega (arith, c.len-i-end.ensures.value)) (λ o. c.is_over.ensures.no w.if-is_over.false (subst Over (sym at) o)) in (
+          let fit = fits_unless_over old i l (λ o. c.is_over.ensures.no w.if-is_over.false (subst Over (sym at) o)) in (
             subst (λ (z : ColumnTable). SamePlaces new z) (sym w.new-is) sp,
             λ row half.
-                let step = whole_skip old new gr m row a half i (omega (arith, c.len-i-end.ensures.value)) n t b (c.loop-i.invariant.1 row half) fit in
+                let step = whole_skip old new gr m row a half i l n t b (c.loop-i.invariant.1 row half) fit in
                 subst (λ (z : Meaning). WholeTo (i + 1) m row old new a z c.if-is_over.new c.if-is_over.arena) (sym (ap g.H.Host.meaning w.host-is))
                 (subst (λ (z : ColumnTable). WholeTo (i + 1) m row old new a n z c.if-is_over.arena) (sym w.new-is)
                 (subst (λ (z : List ℕ). WholeTo (i + 1) m row old new a n t z) (sym w.arena-is) step)),
@@ -122,11 +99,12 @@ returns g c = record {
   places = c.loop-i.invariant.0;
   came = λ row half.
       let w = c.loop-i.invariant.1 row half in
+      let done : count_of c.args.old.now ≤ c.loop-i.i = omega (arith, c.loop-i-test.false, ap length c.deref-column-items.ensures.0) in
       record {
         host = w.host;
         pairs = w.pairs;
-        reported = λ k l. w.reported k (omega (arith, c.loop-i-test.false, c.len-i-end.ensures.value)) l;
-        whole = λ k l. w.whole k (omega (arith, c.loop-i-test.false, c.len-i-end.ensures.value)) l;
+        reported = λ k l. w.reported k (omega arith) l;
+        whole = λ k l. w.whole k (omega arith) l;
         beyond = w.beyond;
       };
 }

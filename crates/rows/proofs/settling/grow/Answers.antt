@@ -1,60 +1,42 @@
-use Rattle.std.proofs.Common.{◌≡◌, Bool, length, ◌∙◌, subst, arith, rules}
-use Rattle.layout.specs.Tables.{count_of, binds}
-use Rattle.rows.specs.Settling.{WholeAs, Whole}
+use Rattle.std.proofs.Common.{true, false, refl, ◌∙◌, rules}
+use Rattle.layout.specs.Moves.{Moved}
 use Rattle.rows.proofs.Pairs.{not_both}
 use Rattle.rows.proofs.Grows.{half, all_fit, is_granted, grew}
 use Rattle.rows.proofs.settling.grow.Goals as goal
-use Rattle.rows.proofs.settling.grow.Goals.{then-not-fetch_missing-via-then-not-fetch_missing, then-not-fetch_missing-via-else-not-fetch_missing+then-not-fits}
 
-pub fetch_missing-requires : goal.fetch_missing-requires
-fetch_missing-requires g c =
-    let w = c.in-Some.ensures in
-    let same : length c.grow.new.arena ≡ length c.args.arena.now = search rules in
-    record { grown = w.grown; room = omega (arith, w.long, same) }
+pub returns-in_err-fetch_missing-clause-came : goal.returns-in_err-fetch_missing-clause-came
+returns-in_err-fetch_missing-clause-came g c = λ row in_row none.
+    let m = g.H.Host.meaning c.args.host.now in
+    let moved : Moved c.args.old.now c.args.arena.now c.in_ok-new.new c.grow.new.arena = search rules in
+    absurd (c.in_err-fetch_missing.ensures.came row (half m row c.args.old.now c.args.arena.now in_row none c.in_ok-new.new c.grow.new.arena moved))
 
-pub returns-then-not-fetch_missing : goal.returns-then-not-fetch_missing
-returns-then-not-fetch_missing g c = record {
-  fit = tt;
-  came = λ row in_row none.
-      let m = g.H.Host.meaning c.args.host.now in
-      let old = c.args.old.now in let a = c.args.arena.now in
-      let new = c.in-Some.new in let b = c.grow.new.arena in
-      let moved = c.in-Some.ensures in
-      let h = half m row old a in_row none new b moved in
-      elim c.then-not-fetch_missing.branch [
-        | then-not-fetch_missing-via-then-not-fetch_missing w ↦ absurd (subst (λ (z : Bool). WholeAs z m row old new b (g.H.Host.meaning c.fetch_missing.new.host) c.fetch_missing.new.new c.fetch_missing.new.arena) w.if-not-fetch_missing.true (c.fetch_missing.ensures.came row h))
-        | then-not-fetch_missing-via-else-not-fetch_missing+then-not-fits w ↦
-            let all : Whole m row old new b (g.H.Host.meaning c.fetch_missing.new.host) c.fetch_missing.new.new c.fetch_missing.new.arena = subst (λ (z : Bool). WholeAs z m row old new b (g.H.Host.meaning c.fetch_missing.new.host) c.fetch_missing.new.new c.fetch_missing.new.arena) w.if-not-fetch_missing.false (c.fetch_missing.ensures.came row h) in
-            absurd (w.fits.ensures.no w.if-not-fits.true (all_fit m row old a in_row none new b moved (g.H.Host.meaning c.fetch_missing.new.host) c.fetch_missing.new.new c.fetch_missing.new.arena c.fetch_missing.ensures.places all))
-      ];
-}
+pub returns-then-not-fits-clause-came : goal.returns-then-not-fits-clause-came
+returns-then-not-fits-clause-came g c = λ row in_row none.
+    let m = g.H.Host.meaning c.args.host.now in
+    let old = c.args.old.now in let a = c.args.arena.now in let new = c.in_ok-new.new in let b = c.grow.new.arena in
+    let moved : Moved old a new b = search rules in
+    let whole = c.in_ok-fetch_missing.ensures.came row (half m row old a in_row none new b moved) in
+    absurd (c.fits.ensures.no c.if-not-fits.true (all_fit m row old a in_row none new b moved (g.H.Host.meaning c.fetch_missing.new.host) c.fetch_missing.new.new c.fetch_missing.new.arena c.fetch_missing.ensures.places whole))
 
-pub returns-then-not-bind : goal.returns-then-not-bind
-returns-then-not-bind g c = record {
-  fit = tt;
-  came = λ row in_row none.
-      let m = g.H.Host.meaning c.args.host.now in
-      let old = c.args.old.now in let a = c.args.arena.now in
-      let new = c.in-Some.new in let b = c.grow.new.arena in
-      let moved = c.in-Some.ensures in
-      let t = c.fetch_missing.new.new in
-      let w = c.if-not-fetch_missing.ensures.came row (half m row old a in_row none new b moved) in
-      not_both c.bind.result
-      (is_granted m row old a in_row none new b moved (g.H.Host.meaning c.fetch_missing.new.host) t c.fetch_missing.new.arena c.fetch_missing.ensures.places w
-      (g.H.Host.meaning c.bind.new.self) _ c.bind.result (c.as_slice.ensures.value ∙ c.bind_records.ensures) c.bind.ensures.granted c.bind.ensures.after)
-      c.if-not-bind.true;
-}
+pub returns-in_err-bind_all-clause-came : goal.returns-in_err-bind_all-clause-came
+returns-in_err-bind_all-clause-came g c = λ row in_row none.
+    let m = g.H.Host.meaning c.args.host.now in
+    let old = c.args.old.now in let a = c.args.arena.now in let new = c.in_ok-new.new in let b = c.grow.new.arena in
+    let moved : Moved old a new b = search rules in
+    let whole = c.in_ok-fetch_missing.ensures.came row (half m row old a in_row none new b moved) in
+    not_both false
+    (is_granted m row old a in_row none new b moved (g.H.Host.meaning c.fetch_missing.new.host) c.fetch_missing.new.new c.fetch_missing.new.arena c.fetch_missing.ensures.places whole
+    (g.H.Host.meaning c.bind_all.new.host) _ false (c.as_slice.ensures.value ∙ c.bind_records.ensures) c.in_err-bind_all.ensures.granted c.bind_all.ensures.after)
+    refl
 
 pub returns : goal.returns
 returns g c = record {
   fit = c.fits.ensures.yes c.if-not-fits.false;
   came = λ row in_row none.
       let m = g.H.Host.meaning c.args.host.now in
-      let old = c.args.old.now in let a = c.args.arena.now in
-      let new = c.in-Some.new in let b = c.grow.new.arena in
-      let moved = c.in-Some.ensures in
-      let t = c.fetch_missing.new.new in
-      let w = c.if-not-fetch_missing.ensures.came row (half m row old a in_row none new b moved) in
-      grew m row old a in_row none new b moved (g.H.Host.meaning c.fetch_missing.new.host) t c.fetch_missing.new.arena c.fetch_missing.ensures.places w
-      (g.H.Host.meaning c.bind.new.self) _ c.bind.result (c.as_slice.ensures.value ∙ c.bind_records.ensures) c.bind.ensures.granted c.bind.ensures.after;
+      let old = c.args.old.now in let a = c.args.arena.now in let new = c.in_ok-new.new in let b = c.grow.new.arena in
+      let moved : Moved old a new b = search rules in
+      let whole = c.in_ok-fetch_missing.ensures.came row (half m row old a in_row none new b moved) in
+      grew m row old a in_row none new b moved (g.H.Host.meaning c.fetch_missing.new.host) c.fetch_missing.new.new c.fetch_missing.new.arena c.fetch_missing.ensures.places whole
+      (g.H.Host.meaning c.bind_all.new.host) _ true (c.as_slice.ensures.value ∙ c.bind_records.ensures) c.in_ok-bind_all.ensures.granted c.bind_all.ensures.after;
 }

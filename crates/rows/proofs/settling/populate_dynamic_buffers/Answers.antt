@@ -1,4 +1,5 @@
 use Rattle.std.proofs.Common.{ap, ◌∙◌, arith}
+use Rattle.std.proofs.lemmas.Result.{err_from_is_err_and}
 use Rattle.mysql.specs.declared.fault.Fault.{Fault}
 use Rattle.mysql.specs.Faults.{at_column}
 use Rattle.rows.proofs.Settles.{in_row, refuses_lost, refuses_long, shows_as_it_is, shows_grown}
@@ -15,37 +16,40 @@ returns-in-Some g c = record {
       refuses_lost m row t rs a got u written c.note_all.ensures.places c.in-Some.k c.at.result c.in-Some.ensures (c.at.ensures ∙ ap (λ (f : Fault). at_column f c.in-Some.k) c.new.ensures);
 }
 
-pub returns-then-fits : goal.returns-then-fits
-returns-then-fits g c = record {
-  fit = c.fits.ensures.yes c.if-fits.true;
+pub returns-else-not-fits : goal.returns-else-not-fits
+returns-else-not-fits g c = record {
+  fit = c.fits.ensures.yes c.if-not-fits.false;
   came = λ row got.
       let m = g.H.Host.meaning c.args.host.now in
       let t = c.args.table.now in let rs = c.args.reports.now in let a = c.args.arena.now in
       let u = c.note_all.new.self in
       let written = c.note_all.ensures.noted (omega (arith, got.as_many)) in
-      shows_as_it_is m row t rs a got u written c.note_all.ensures.places c.in_default.ensures (c.fits.ensures.yes c.if-fits.true);
+      shows_as_it_is m row t rs a got u written c.note_all.ensures.places c.in_default.ensures (c.fits.ensures.yes c.if-not-fits.false);
 }
 
-pub returns-in-Ok : goal.returns-in-Ok
-returns-in-Ok g c = record {
-  fit = c.in-Ok.ensures.fit;
+pub returns-in_ok-new : goal.returns-in_ok-new
+returns-in_ok-new g c = record {
+  fit = c.in_ok-new.ensures.fit;
   came = λ row got.
       let m = g.H.Host.meaning c.args.host.now in
       let t = c.args.table.now in let rs = c.args.reports.now in let a = c.args.arena.now in
       let u = c.note_all.new.self in
       let written = c.note_all.ensures.noted (omega (arith, got.as_many)) in
-      let grew = c.in-Ok.ensures.came row (in_row m row t rs a got u written c.note_all.ensures.places) c.in_default.ensures in
-      shows_grown m row t rs a got u written c.note_all.ensures.places c.in_default.ensures c.in-Ok.new (g.H.Host.meaning c.grow.new.host) c.grow.new.arena grew;
+      let grew = c.in_ok-new.ensures.came row (in_row m row t rs a got u written c.note_all.ensures.places) c.in_default.ensures in
+      shows_grown m row t rs a got u written c.note_all.ensures.places c.in_default.ensures c.in_ok-new.new (g.H.Host.meaning c.grow.new.host) c.grow.new.arena grew;
 }
 
-pub returns-in-Err : goal.returns-in-Err
-returns-in-Err g c = record {
-  fit = tt;
-  came = λ row got.
-      let m = g.H.Host.meaning c.args.host.now in
-      let t = c.args.table.now in let rs = c.args.reports.now in let a = c.args.arena.now in
-      let u = c.note_all.new.self in
-      let written = c.note_all.ensures.noted (omega (arith, got.as_many)) in
-      let stayed = c.in-Err.ensures.came row (in_row m row t rs a got u written c.note_all.ensures.places) c.in_default.ensures in
-      refuses_long m row t rs a got u written c.note_all.ensures.places c.in_default.ensures c.in-Err.fault (g.H.Host.meaning c.grow.new.host) c.grow.new.arena stayed;
-}
+pub returns-in_err-new : goal.returns-in_err-new
+returns-in_err-new g c =
+    let p = err_from_is_err_and c.from_residual.result c.from_residual.ensures.1 in
+    let m = g.H.Host.meaning c.args.host.now in
+    let t = c.args.table.now in let rs = c.args.reports.now in let a = c.args.arena.now in
+    let u = c.note_all.new.self in
+    rw (p.1, p.2)
+    (record {
+      fit = tt;
+      came = λ row got.
+          let written = c.note_all.ensures.noted (omega (arith, got.as_many)) in
+          let stayed = c.in_err-new.ensures.came row (in_row m row t rs a got u written c.note_all.ensures.places) c.in_default.ensures in
+          refuses_long m row t rs a got u written c.note_all.ensures.places c.in_default.ensures _ (g.H.Host.meaning c.grow.new.host) c.grow.new.arena stayed;
+    })

@@ -1,11 +1,12 @@
 use Rattle.std.proofs.Common.{◌≡◌, ◌+◌, ◌-◌, List, length, get_or, ◌∙◌, subst, arith, rules}
 use Rattle.host.specs.Fields.{Field, null}
 use Rattle.host.specs.Calls.{no_record}
+use Rattle.host.proofs.Written.{inside_at, more_written, all_written}
 use Rattle.tape.specs.Views.{field_of}
 use Rattle.tape.specs.Recordings.{fields_left}
+use Rattle.tape_host.specs.Tapes.{shown}
 use Rattle.tape_host.specs.Wholes.{Wrote}
 use Rattle.tape_host.proofs.Copied.{left_more, left_first}
-use Rattle.tape_host.proofs.Rowed.{inside_at, more_written, all_written}
 use Rattle.tape_host.proofs.write.write_row.Goals as goal
 
 pub overflow_add-end : goal.overflow_add-end
@@ -25,7 +26,7 @@ loop-i-preserved c =
     let field : field_of c.next_field-field.result ≡ get_or fs i null =
     c.next_field-field.ensures.first ∙ left_first fs (fields_left c.loop-i.fields) i c.loop-i.invariant.0 null in (
       left_more fs (fields_left c.loop-i.fields) i c.loop-i.invariant.0 (fields_left c.next_field-field.new.fields) c.next_field-field.ensures.left,
-      more_written fs ps c.loop-i.reports c.args.arena.now c.loop-i.arena c.loop-i.truncated i c.loop-i.invariant.1 c.requires.ordered (omega arith) (omega arith)
+      more_written (shown fs) ps c.loop-i.reports c.args.arena.now c.loop-i.arena c.loop-i.truncated i c.loop-i.invariant.1 c.requires.ordered (omega arith) (omega arith)
           (b.start + b.capacity - b.start) c.write_field-report.new.part c.write_field-report.result
           (omega arith) size (search rules) (field_of c.next_field-field.result) field _ (search rules) c.write_field-report.ensures.reported c.write_field-report.ensures.stands,
     )
@@ -36,5 +37,5 @@ returns c =
     let fs = fields_left c.fields-fields.result in
     let n : length ps ≡ c.loop-i.i = omega arith in
     let P : List Field → Type 0 = λ xs. Wrote xs ps c.loop-i.reports c.args.arena.now c.loop-i.arena c.loop-i.truncated in
-    subst P c.fields-fields.ensures.all
-    (all_written fs ps c.loop-i.reports c.args.arena.now c.loop-i.arena c.loop-i.truncated c.loop-i.i n c.loop-i.auto.arena c.loop-i.invariant.1)
+    let w = all_written (shown fs) ps c.loop-i.reports c.args.arena.now c.loop-i.arena c.loop-i.truncated c.loop-i.i n c.loop-i.auto.arena c.loop-i.invariant.1 in
+    subst P c.fields-fields.ensures.all (record { reported = w.reported; stands = w.stands; untouched = w.untouched; marked = w.marked })

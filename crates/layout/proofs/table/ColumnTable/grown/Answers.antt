@@ -13,7 +13,7 @@ tight_or_none t (Some u) long h = record {
   tight = true;
   laid = h.1;
   rule_tight = λ x. long;
-  rule_wide = λ x. let z : ◌≡◌ {A = ℕ} 0 1 = cc in absurd (omega arith);
+  rule_wide = λ x. absurd cc;
 }
 
 pub returns-in-Some : goal.returns-in-Some
@@ -24,7 +24,7 @@ returns-in-Some c =
       enough = omega (arith, e.0, need_wide t);
       tight = false;
       laid = e.1;
-      rule_tight = λ x. let z : ◌≡◌ {A = ℕ} 0 1 = cc in absurd (omega arith);
+      rule_tight = λ x. absurd cc;
       rule_wide = λ x. e.0;
     }
 
