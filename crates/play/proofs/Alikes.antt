@@ -1,23 +1,19 @@
 -- Two sessions that are opened alike answer equal next events alike, and equal readings of them.
-use Rattle.std.proofs.Common.{◌≡◌, ℕ, suc, ◌+◌, ◌^◌, ◌<◌, Bool, true, false, cond, ltb, List, [], ◌∷◌, ◌++◌, length, get_or, is_some, Some, None, Ok, Err, Option, Result, sym, refl, ap, ◌∙◌, subst, arith}
+use Rattle.std.proofs.Common.{◌≡◌, ℕ, suc, ◌+◌, ◌<◌, Bool, true, false, cond, ltb, List, [], ◌∷◌, ◌++◌, length, get_or, is_some, Some, None, Ok, Err, Option, Result, sym, refl, ap, ◌∙◌, subst, arith}
 use Rattle.std.proofs.lemmas.Bool.{ltb-true}
 use Rattle.mysql.specs.declared.bind.Column.{Column}
 use Rattle.mysql.specs.declared.fault.Fault.{Fault}
 use Rattle.mysql.specs.declared.fault.Refusal.TheVariants.{NoSuchColumn}
 use Rattle.mysql.specs.Faults.{refused, host_failed}
-use Rattle.mysql.specs.Types.{size_of}
-use Rattle.readings.specs.Integers as integers
-use Rattle.readings.specs.Times as times
-use Rattle.host.specs.Fields.{Field}
 use Rattle.host.specs.Meanings.{Row, Event, Meaning}
 use Rattle.host.specs.Meanings as event
 use Rattle.layout.specs.Tables.{no_pair}
-use Rattle.rows.specs.Bounds.{field_at, field_need, row_need, loses, first_loss}
+use Rattle.rows.specs.Bounds.{field_at, row_need, first_loss}
 use Rattle.rows.specs.declared.answers.Fetch.{Fetch}
 use Rattle.rows.specs.Dues as dues
 use Rattle.rows.specs.Dues.{Shown}
-use Rattle.play.specs.Histories.{Asked, opening, fetch, reading, integer, big_integer, time, Said, Entry, granted, bound_with, removed, showing_from, IsReading, NoFetch}
-use Rattle.play.specs.Rules.{fetch_said, shown_said, number_said, time_said, fetch_due, read_due}
+use Rattle.play.specs.Histories.{Asked, opening, fetch, reading, integer, big_integer, time, Said, Entry, granted, removed, showing_from, IsReading, NoFetch}
+use Rattle.play.specs.Rules.{fetch_said, shown_said, read_due}
 use Rattle.play.specs.Law.{bound_after, coming_after, SameFields, SameNext, Alike, AnswersAlike}
 use Rattle.play.specs.Machine.{State, start, shown_if, fetch_at, answer, after, Ideal}
 use Rattle.play.proofs.Runs.{run, later, rests, Went}
@@ -41,15 +37,11 @@ module _ (r s : Row) where
 
   same_loss : (i : ℕ) (ps : List Column) → SameFrom i ps → first_loss r i ps ≡ first_loss s i ps
   same_loss i [] h = refl
-  same_loss i (c ∷ cs) h =
-      ap (λ (f : Field). cond (loses (size_of c.code) f) (Some i) (first_loss r (suc i) cs)) (head_on i c cs h)
-      ∙ ap (λ (o : Option ℕ). cond (loses (size_of c.code) (field_at s i c)) (Some i) o) (same_loss (suc i) cs (next_on i c cs h))
+  same_loss i (c ∷ cs) h = rw (head_on i c cs h, same_loss (suc i) cs (next_on i c cs h)) refl
 
   same_need : (i : ℕ) (ps : List Column) → SameFrom i ps → row_need r i ps ≡ row_need s i ps
   same_need i [] h = refl
-  same_need i (c ∷ cs) h =
-      ap (λ (f : Field). field_need (size_of c.code) f + row_need r (suc i) cs) (head_on i c cs h)
-      ∙ ap (λ (n : ℕ). field_need (size_of c.code) (field_at s i c) + n) (same_need (suc i) cs (next_on i c cs h))
+  same_need i (c ∷ cs) h = rw (head_on i c cs h, same_need (suc i) cs (next_on i c cs h)) refl
 
   from_first : (ps : List Column) → SameFields ps r s → SameFrom 0 ps
   from_first ps h k l =
@@ -57,9 +49,7 @@ module _ (r s : Row) where
       ap (λ (j : ℕ). field_at r j (get_or ps k no_pair)) shift ∙ h k l ∙ ap (λ (j : ℕ). field_at s j (get_or ps k no_pair)) (sym shift)
 
   same_fetched : (ps : List Column) (n : ℕ) (ds es : List Event) → SameFields ps r s → dues.fetched ps n (event.row r ∷ ds) ≡ dues.fetched ps n (event.row s ∷ es)
-  same_fetched ps n ds es h =
-      ap (λ (o : Option ℕ). dues.row_fetched o (ltb n (row_need r 0 ps))) (same_loss 0 ps (from_first ps h))
-      ∙ ap (λ (k : ℕ). dues.row_fetched (first_loss s 0 ps) (ltb n k)) (same_need 0 ps (from_first ps h))
+  same_fetched ps n ds es h = rw (same_loss 0 ps (from_first ps h), same_need 0 ps (from_first ps h)) refl
 
   -- the reading of a column, by whether there is such a column
   read_by : (ps : List Column) (k : ℕ) (b : Bool) → ltb k (length ps) ≡ b → SameFields ps r s
@@ -98,9 +88,9 @@ same_answer : (s t : State) → ((k : ℕ) → read_due s.bound s.shown k ≡ re
 same_answer s t h (opening wanted) i = absurd i
 same_answer s t h fetch i = absurd i
 same_answer s t h (reading k) i = ap shown_said (h k)
-same_answer s t h (integer k) i = ap (λ (x : Result (Option Shown) Fault). number_said (dues.read_as (integers.integer (2 ^ 31)) k x)) (h k)
-same_answer s t h (big_integer k) i = ap (λ (x : Result (Option Shown) Fault). number_said (dues.read_as (integers.integer (2 ^ 63)) k x)) (h k)
-same_answer s t h (time k) i = ap (λ (x : Result (Option Shown) Fault). time_said (dues.read_as times.time k x)) (h k)
+same_answer s t h (integer k) i = rw (h k) refl
+same_answer s t h (big_integer k) i = rw (h k) refl
+same_answer s t h (time k) i = rw (h k) refl
 
 -- something is bound where it is said so
 some_bound : (o : Option (List Column)) → is_some o ≡ true → (pairs : List Column) × (o ≡ Some pairs)
@@ -131,20 +121,16 @@ module _ (m : Meaning) (n : ℕ) (history : List Entry) (ideal : Ideal (start m 
   there_is = ap (fetch_at here) is_bound
 
   fetch_says : said ≡ fetch_said (dues.fetched pairs n (coming_after m before))
-  fetch_says =
-      so.0 ∙ ap (λ (o : Option (List Column)). fetch_said (fetch_due o here.arena here.coming)) is_bound
-      ∙ ap (λ (k : ℕ). fetch_said (dues.fetched pairs k here.coming)) went.arena ∙ ap (λ (es : List Event). fetch_said (dues.fetched pairs n es)) went.coming
+  fetch_says = so.0 ∙ rw (is_bound, went.arena, went.coming) refl
 
   there_bound : there.bound ≡ Some pairs
-  there_bound = ap (λ (s : State). s.bound) there_is ∙ is_bound
+  there_bound = rw there_is is_bound
 
   there_shown : there.shown ≡ shown_if (dues.fetched pairs n (coming_after m before)) (coming_after m before)
-  there_shown =
-      ap (λ (s : State). s.shown) there_is
-      ∙ ap (λ (k : ℕ). shown_if (dues.fetched pairs k here.coming) here.coming) went.arena ∙ ap (λ (es : List Event). shown_if (dues.fetched pairs n es) es) went.coming
+  there_shown = rw (there_is, went.arena, went.coming) refl
 
   there_reads : (k : ℕ) → read_due there.bound there.shown k ≡ dues.read pairs (shown_if (dues.fetched pairs n (coming_after m before)) (coming_after m before)) k
-  there_reads k = ap (λ (o : Option (List Column)). read_due o there.shown k) there_bound ∙ ap (λ (o : Option Row). dues.read pairs o k) there_shown
+  there_reads k = rw (there_bound, there_shown) refl
 
   reading_says : (between after' : List Entry) (asked : Asked) (x : Said) → rest ≡ between ++ record { asked = asked; said = x } ∷ after' → NoFetch between → x ≡ answer there asked
   reading_says between after' asked x e quiet =
@@ -154,8 +140,7 @@ module _ (m : Meaning) (n : ℕ) (history : List Entry) (ideal : Ideal (start m 
 module _ (m m' : Meaning) (n n' : ℕ) (h h' : List Entry) (ideal : Ideal (start m n) h) (ideal' : Ideal (start m' n') h') where
   -- the columns are bound alike
   bound_alike : (before before' : List Entry) → Alike m m' n n' before before' → bound_after m' before' ≡ bound_after m before
-  bound_alike before before' a =
-      ap (bound_with m'.columns) a.opened' ∙ ap (λ (cs : List Column). bound_with cs (Some a.wanted)) (sym a.columns) ∙ sym (ap (bound_with m.columns) a.opened)
+  bound_alike before before' a = rw (a.opened', a.opened, a.columns) refl
 
   pub alike : AnswersAlike m m' n n' h h'
   alike before before' rest rest' said said' e e' a =

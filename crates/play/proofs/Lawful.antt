@@ -6,8 +6,8 @@ use Rattle.host.specs.Meanings as event
 use Rattle.rows.specs.Bounds.{first_loss, row_need}
 use Rattle.rows.specs.Dues as dues
 use Rattle.play.specs.Histories.{Asked, fetch, Said, row, Entry, granted, removed, showing_from, NoFetch}
-use Rattle.play.specs.Rules.{opening_said, fetch_said, fetch_due, reading_due}
-use Rattle.play.specs.Law.{bound_after, Shows, Exactly, Lawful}
+use Rattle.play.specs.Rules.{fetch_said, fetch_due, reading_due}
+use Rattle.play.specs.Law.{Shows, Exactly, Lawful}
 use Rattle.play.specs.Machine.{State, start, shown_if, fetch_at, answer, after, Ideal}
 use Rattle.play.proofs.Runs.{run, later, earlier, says_due, rests, Went, from_start}
 
@@ -85,21 +85,9 @@ module _ (m : Meaning) (n : ℕ) (history : List Entry) (ideal : Ideal (start m 
       let h = (said_so before rest e).0 in
       let w = came before rest e in
       record {
-        openings = λ wanted q.
-            h ∙ ap (answer s) q
-            ∙ ap (λ (x : Bool). opening_said (dues.opening x s.arena s.carries wanted s.columns)) w.opens
-            ∙ ap (λ (x : ℕ). opening_said (dues.opening (is_some (granted before)) x s.carries wanted s.columns)) w.arena
-            ∙ ap (λ (x : ℕ → ℕ → Bool). opening_said (dues.opening (is_some (granted before)) n x wanted s.columns)) w.carries
-            ∙ ap (λ (x : List Column). opening_said (dues.opening (is_some (granted before)) n m.carries wanted x)) w.columns;
-        fetches = λ q.
-            h ∙ ap (answer s) q
-            ∙ ap (λ (x : Option (List Column)). fetch_said (fetch_due x s.arena s.coming)) w.bound_as
-            ∙ ap (λ (x : ℕ). fetch_said (fetch_due (bound_after m before) x s.coming)) w.arena
-            ∙ ap (λ (x : List Event). fetch_said (fetch_due (bound_after m before) n x)) w.coming;
-        no_row = λ due q d.
-            h ∙ says_due s asked due
-            (ap (λ (x : Option (List Column)). reading_due x s.shown asked) w.bound_as
-            ∙ ap (λ (x : Option Row). reading_due (bound_after m before) x asked) (none_shown s.shown (w.shows_as ∙ q)) ∙ d);
+        openings = λ wanted q. rw q at h ∙ rw (w.opens, w.arena, w.carries, w.columns) refl;
+        fetches = λ q. rw q at h ∙ rw (w.bound_as, w.arena, w.coming) refl;
+        no_row = λ due q d. h ∙ says_due s asked due (rw (w.bound_as, none_shown s.shown (w.shows_as ∙ q)) d);
       }
 
   pub lawful : Lawful m n history

@@ -1,10 +1,10 @@
 -- A call of a session is a step of the ideal session that it stands for.
-use Rattle.std.proofs.Common.{◌≡◌, ℕ, Bool, true, false, cond, ◌&&◌, eqb, nat_lt, List, [], ◌∷◌, length, is_some as option_is_some, Some, None, Ok, Err, Option, Result, MatchResult, sym, refl, ap, ◌∙◌}
+use Rattle.std.proofs.Common.{◌≡◌, ℕ, Bool, true, false, cond, eqb, nat_lt, List, [], ◌∷◌, length, is_some as option_is_some, Some, None, Ok, Err, Option, Result, MatchResult, sym, refl, ap, ◌∙◌}
 use Rattle.std.proofs.lemmas.Bool.{eq-eqb}
 use Rattle.mysql.specs.declared.backend.MysqlType.{MysqlType}
 use Rattle.mysql.specs.declared.bind.Column.{Column}
 use Rattle.mysql.specs.declared.fault.Fault.{Fault}
-use Rattle.mysql.specs.declared.fault.Refusal.TheVariants.{Unopened, ArenaLength, NoSuchColumn, NoCurrentRow}
+use Rattle.mysql.specs.declared.fault.Refusal.TheVariants.{Unopened, NoSuchColumn, NoCurrentRow}
 use Rattle.mysql.specs.Faults.{refused}
 use Rattle.host.specs.Meanings.{Row, Event, Meaning}
 use Rattle.host.specs.Meanings as event
@@ -36,23 +36,21 @@ same_state x y p q r s t u = λ i. record { columns = p i; carries = q i; arena 
 
 -- a session that is not opened passes no check
 unopened : {H X : Type 0} (s : Session H) (n : ℕ) (r : Result X Fault) → is_open s ≡ false → past_checks s n r ≡ Err (refused Unopened)
-unopened s n r o = ap (λ (b : Bool). cond b (cond (eqb n s.table.room) r (Err (refused ArenaLength))) (Err (refused Unopened))) o
+unopened s n r o = rw o refl
 
 -- one that is opened over an arena of this length passes both
 opened_past : {H X : Type 0} (s : Session H) (n : ℕ) (r : Result X Fault) → is_open s ≡ true → eqb n s.table.room ≡ true → past_checks s n r ≡ r
-opened_past s n r o l =
-    ap (λ (b : Bool). cond b (cond (eqb n s.table.room) r (Err (refused ArenaLength))) (Err (refused Unopened))) o
-    ∙ ap (λ (b : Bool). cond b r (Err (refused ArenaLength))) l
+opened_past s n r o l = rw (o, l) refl
 
 module _ {H : Type 0} (m : Meaning) (s : Session H) (a : List ℕ) (ready : Ready m s a) where
   same_length : is_open s ≡ true → eqb (length a) s.table.room ≡ true
   same_length o = eq-eqb (length a) s.table.room (sym (ready.room o))
 
   passed : is_open s ≡ true → passes s a ≡ true
-  passed o = ap (λ (b : Bool). b && eqb (length a) s.table.room) o ∙ same_length o
+  passed o = rw (o, same_length o) refl
 
   stopped : is_open s ≡ false → passes s a ≡ false
-  stopped o = ap (λ (b : Bool). b && eqb (length a) s.table.room) o
+  stopped o = rw o refl
 
 -- openings
 
@@ -65,22 +63,12 @@ module _ {H : Type 0} (m m' : Meaning) (s s' : Session H) (a a' : List ℕ) (wan
   granted_opening : (pairs : List Column) → Opened m m' s s' pairs a a' → ideal_of m' s' a' ≡ opening_at (ideal_of m s a) (Ok pairs)
   granted_opening pairs o =
       same_state (ideal_of m' s' a') (opening_at (ideal_of m s a) (Ok pairs))
-      (ap (λ (x : Meaning). x.columns) o.host)
-      (ap (λ (x : Meaning). x.carries) o.host)
-      long
-      (ap (λ (x : Meaning). x.coming) o.host)
-      (ap (λ (b : Bool). cond b (Some (pairs_of s'.table)) None) o.opened ∙ ap (λ (ps : List Column). Some ps) o.bound_with)
-      (ap (λ (b : Bool). cond b m'.current None) o.no_row)
+      (rw o.host refl) (rw o.host refl) long (rw o.host refl) (rw (o.opened, o.bound_with) refl) (rw o.no_row refl)
 
   refused_opening : (f : Fault) → NotOpened f m m' s s' a a' → ideal_of m' s' a' ≡ ideal_of m s a
   refused_opening f o =
       same_state (ideal_of m' s' a') (ideal_of m s a)
-      (ap (λ (x : Meaning). x.columns) o.host)
-      (ap (λ (x : Meaning). x.carries) o.host)
-      long
-      (ap (λ (x : Meaning). x.coming) o.host)
-      (ap (λ (b : Bool). cond b (Some (pairs_of s'.table)) None) o.opened ∙ ap (λ (t : ColumnTable). cond (is_open s) (Some (pairs_of t)) None) o.table)
-      (ap (λ (b : Bool). cond b m'.current None) o.shown ∙ ap (λ (x : Meaning). cond (is_shown s) x.current None) o.host)
+      (rw o.host refl) (rw o.host refl) long (rw o.host refl) (rw (o.opened, o.table) refl) (rw (o.shown, o.host) refl)
 
   opening_by : (r : Result Slip Fault) (d : Result (List Column) Fault) → dues.opening (option_is_some (ideal_of m s a).bound) (length a) m.carries wanted m.columns ≡ d → AfterOpening r d m m' s s' a a'
       → Moved (ideal_of m s a) (opening wanted) (opening_answer r) m' s' a'
@@ -136,11 +124,10 @@ module _ {H : Type 0} (m m' : Meaning) (s s' : Session H) (a a' : List ℕ) (lon
   fetched_is : (coming : List Event) (r : Result Fetch Fault) → m'.columns ≡ m.columns → m'.carries ≡ m.carries → m'.coming ≡ rest_of coming → is_open s' ≡ true → pairs_of s'.table ≡ pairs_of s.table → shown_row m' s' ≡ shown_if r coming → ideal_of m' s' a' ≡ fetched_to coming r
   fetched_is coming r cs ca co o ps sh =
       same_state (ideal_of m' s' a') (fetched_to coming r) cs ca long co
-      (ap (λ (b : Bool). cond b (Some (pairs_of s'.table)) None) o ∙ ap (λ (qs : List Column). Some qs) ps)
-      sh
+      (rw (o, ps) refl) sh
 
   hidden : is_shown s' ≡ false → shown_row m' s' ≡ None
-  hidden e = ap (λ (b : Bool). cond b m'.current None) e
+  hidden e = rw e refl
 
   -- where no row was next, none is shown
   none_at_end : (r : Result Fetch Fault) → shown_if r [] ≡ None
@@ -154,20 +141,20 @@ module _ {H : Type 0} (m m' : Meaning) (s s' : Session H) (a a' : List ℕ) (lon
   fetch_to : (coming : List Event) (r : Result Fetch Fault) → AfterFetch coming r m m' s s' a a'
       → (ideal_of m' s' a' ≡ fetched_to coming r) × (s'.table.room ≡ s.table.room)
   fetch_to [] r w = (
-    fetched_is [] r (ap (λ (x : Meaning). x.columns) w.host) (ap (λ (x : Meaning). x.carries) w.host) (ap (λ (x : Meaning). x.coming) w.host) w.opened (ap pairs_of w.table) (hidden w.no_row ∙ sym (none_at_end r)),
+    fetched_is [] r (rw w.host refl) (rw w.host refl) (rw w.host refl) w.opened (ap pairs_of w.table) (hidden w.no_row ∙ sym (none_at_end r)),
     ap (λ (t : ColumnTable). t.room) w.table,
   )
   fetch_to (event.failure n ∷ es) r w = (
-    fetched_is (event.failure n ∷ es) r (ap (λ (x : Meaning). x.columns) w.host) (ap (λ (x : Meaning). x.carries) w.host) (ap (λ (x : Meaning). x.coming) w.host) w.opened (ap pairs_of w.table) (hidden w.no_row ∙ sym (none_at_failure r n es)),
+    fetched_is (event.failure n ∷ es) r (rw w.host refl) (rw w.host refl) (rw w.host refl) w.opened (ap pairs_of w.table) (hidden w.no_row ∙ sym (none_at_failure r n es)),
     ap (λ (t : ColumnTable). t.room) w.table,
   )
   fetch_to (event.row x ∷ es) (Ok y) w = (
-    fetched_is (event.row x ∷ es) (Ok y) (ap (λ (z : Meaning). z.columns) w.host) (ap (λ (z : Meaning). z.carries) w.host) (ap (λ (z : Meaning). z.coming) w.host) w.opened w.table.pairs
-        (ap (λ (b : Bool). cond b m'.current None) w.shown ∙ ap (λ (z : Meaning). z.current) w.host),
+    fetched_is (event.row x ∷ es) (Ok y) (rw w.host refl) (rw w.host refl) (rw w.host refl) w.opened w.table.pairs
+        (rw (w.shown, w.host) refl),
     w.table.room,
   )
   fetch_to (event.row x ∷ es) (Err y) w = (
-    fetched_is (event.row x ∷ es) (Err y) (ap (λ (z : Meaning). z.columns) w.host) (ap (λ (z : Meaning). z.carries) w.host) (ap (λ (z : Meaning). z.coming) w.host) w.opened w.pairs (hidden w.no_row),
+    fetched_is (event.row x ∷ es) (Err y) (rw w.host refl) (rw w.host refl) (rw w.host refl) w.opened w.pairs (hidden w.no_row),
     w.places.room,
   )
 

@@ -1,5 +1,5 @@
 -- What a fetch of an opened session meets.
-use Rattle.std.proofs.Common.{◌≡◌, ℕ, ◌<◌, Bool, true, false, ◌&&◌, eqb, ltb, List, ◌∷◌, length, get_or, Some, None, Ok, Err, Option, Result, ◌⊎◌, ⊎_elim, sym, ap, ◌∙◌, subst, arith}
+use Rattle.std.proofs.Common.{◌≡◌, ℕ, ◌<◌, Bool, true, false, ltb, List, ◌∷◌, length, get_or, Some, Ok, Err, Option, Result, ◌⊎◌, ⊎_elim, sym, refl, ap, ◌∙◌, subst, arith}
 use Rattle.std.proofs.lemmas.Bool.{eq-eqb}
 use Rattle.mysql.specs.declared.fault.Fault.{Fault}
 use Rattle.mysql.specs.Faults.{host_failed}
@@ -8,7 +8,7 @@ use Rattle.host.specs.declared.records.Report.{Report}
 use Rattle.host.specs.declared.records.Fetched.{Fetched}
 use Rattle.host.specs.declared.records.Fetched.TheVariants as fetched_as
 use Rattle.host.specs.Meanings.{Row, Event, row, failure, Meaning, RowFits, CurrentFits, Formed}
-use Rattle.host.specs.Calls.{no_record as no_bind, no_report, all_end_by, allows, InPlace, Untouched, Reported, Stands, field_of, NotAllowed, FailureCame, RowCame, Fetches}
+use Rattle.host.specs.Calls.{no_record as no_bind, no_report, allows, InPlace, Untouched, Reported, Stands, field_of, NotAllowed, FailureCame, RowCame, Fetches}
 use Rattle.layout.specs.declared.table.ColumnTable.{ColumnTable}
 use Rattle.layout.specs.Columns.{bind_of}
 use Rattle.layout.specs.Tables.{count_of, col, end, binds}
@@ -56,9 +56,7 @@ module _ {H : Type 0} (m : Meaning) (s : Session H) (sound : Sound m s) (a : Lis
   -- the host allows the fetch
   pub allowed : (n : ℕ) → n ≡ count_of t → allows m (length a) n ≡ true
   allowed n e =
-      ap (λ (o : Option (List BindRecord)). elim o [ Some bs ↦ all_end_by (length a) bs && eqb n (length m.columns) | None ↦ false ]) (sound.places opened)
-      ∙ ap (λ (b : Bool). b && eqb n (length m.columns)) (binds_end_by t (length a) (omega (arith, long)))
-      ∙ eq-eqb n (length m.columns) (e ∙ sound.as_many opened)
+      rw (sound.places opened, binds_end_by t (length a) (omega (arith, long)), eq-eqb n (length m.columns) (e ∙ sound.as_many opened)) refl
 
   answers : (coming : List Event) (x : Result Fetch Fault) → fetched (pairs_of t) (length a) coming ≡ x → m.coming ≡ coming → x ≡ fetch_answer s a m.coming
   answers coming x d e =

@@ -1,12 +1,11 @@
 -- What a fetch keeps: the tie between a session and its host, and that a shown row stands in the arena.
-use Rattle.std.proofs.Common.{◌≡◌, ℕ, Bool, true, false, cond, List, [], ◌∷◌, length, Some, None, Ok, Err, Result, sym, ap, ◌∙◌, subst, arith}
+use Rattle.std.proofs.Common.{◌≡◌, ℕ, Bool, true, false, cond, List, [], ◌∷◌, length, Some, None, Ok, Err, Result, sym, refl, ap, ◌∙◌, subst, arith}
 use Rattle.mysql.specs.declared.fault.Fault.{Fault}
 use Rattle.host.specs.Meanings.{Row, Event, row, failure, Meaning}
-use Rattle.layout.specs.declared.table.ColumnTable.{ColumnTable}
 use Rattle.layout.specs.Tables.{count_of, col, binds}
 use Rattle.rows.specs.declared.answers.Fetch.{Fetch}
 use Rattle.session.specs.declared.state.Session.{Session}
-use Rattle.rows.specs.Bounds.{all_carried, field_at}
+use Rattle.rows.specs.Bounds.{field_at}
 use Rattle.rows.specs.Standing.{pair_of, pairs_of, StandsWhole}
 use Rattle.session.specs.Sessions.{is_open, is_shown, Sound, Holds, passes, host_after, AfterFetch}
 use Rattle.rows.proofs.Pairs.{not_both}
@@ -22,26 +21,25 @@ module _ {H : Type 0} (m m' : Meaning) (s s' : Session H) (sound : Sound m s) (a
   kept_sound cs rs b n ps o some = record {
     places = λ _. b;
     as_many = λ _. n ∙ sound.as_many opened ∙ sym (ap length cs);
-    carried = λ _. ap (λ (f : ℕ → ℕ → Bool). all_carried f 0 (pairs_of s'.table)) rs ∙ ap (all_carried m.carries 0) ps ∙ sound.carried opened;
+    carried = λ _. rw (rs, ps) (sound.carried opened);
     opened_first = λ _. o;
     a_row = some;
   }
 
   same_table : s'.table ≡ s.table → (rest : List Event) (error : ℕ) → m' ≡ host_after m rest None error → is_open s' ≡ true → is_shown s' ≡ false → Sound m' s'
   same_table e rest error h o no_row =
-      kept_sound (ap (λ (x : Meaning). x.columns) h) (ap (λ (x : Meaning). x.carries) h)
-      (ap (λ (x : Meaning). x.bound) h ∙ sound.places opened ∙ ap (λ (t : ColumnTable). Some (binds t)) (sym e))
-      (ap (λ (t : ColumnTable). count_of t) e) (ap pairs_of e) o (λ p. not_both (is_shown s') p no_row)
+      kept_sound (rw h refl) (rw h refl)
+      (rw (h, e) (sound.places opened)) (rw e refl) (rw e refl) o (λ p. not_both (is_shown s') p no_row)
 
   pub after_sound : (a' : List ℕ) (es : List Event) (x : Result Fetch Fault) → AfterFetch es x m m' s s' a a' → Sound m' s'
   after_sound a' [] x w = same_table w.table [] 0 w.host w.opened w.no_row
   after_sound a' (failure n ∷ rest) x w = same_table w.table rest n w.host w.opened w.no_row
   after_sound a' (row r ∷ rest) (Ok x) w =
-      kept_sound (ap (λ (z : Meaning). z.columns) w.host) (ap (λ (z : Meaning). z.carries) w.host) (ap (λ (z : Meaning). z.bound) w.host) w.table.count w.table.pairs w.opened
+      kept_sound (rw w.host refl) (rw w.host refl) (rw w.host refl) w.table.count w.table.pairs w.opened
       (λ p e. let q : None ≡ Some r = sym e ∙ ap (λ (z : Meaning). z.current) w.host in cc)
   after_sound a' (row r ∷ rest) (Err f) w =
-      kept_sound (ap (λ (z : Meaning). z.columns) w.host) (ap (λ (z : Meaning). z.carries) w.host)
-      (ap (λ (z : Meaning). z.bound) w.host ∙ sound.places opened ∙ ap Some (sym w.places.binds_same))
+      kept_sound (rw w.host refl) (rw w.host refl)
+      (rw w.host (sound.places opened ∙ ap Some (sym w.places.binds_same)))
       w.places.count w.pairs w.opened (λ p. not_both (is_shown s') p w.no_row)
 
 -- where no row is shown there is nothing to hold

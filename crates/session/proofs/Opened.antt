@@ -8,25 +8,22 @@ use Rattle.mysql.specs.Answers.{next}
 use Rattle.mysql.specs.Faults.{refused, host_failed}
 use Rattle.host.specs.Meanings.{Meaning}
 use Rattle.layout.specs.declared.table.ColumnTable.{ColumnTable}
-use Rattle.layout.specs.Tables.{count_of, col, binds, opening_size}
+use Rattle.layout.specs.Tables.{count_of, col, opening_size}
 use Rattle.rows.proofs.Pairs.{not_both}
 use Rattle.session.specs.declared.answers.Slip.{Slip}
 use Rattle.session.specs.declared.state.Session.{Session}
 use Rattle.rows.specs.Bounds.{bound, all_carried, field_at}
 use Rattle.session.proofs.Binds.{bound_long}
 use Rattle.rows.specs.Dues.{most_bytes, placed, opening}
-use Rattle.rows.specs.Standing.{pair_of, pairs_of, StandsWhole}
+use Rattle.rows.specs.Standing.{pair_of, StandsWhole}
 use Rattle.session.specs.Sessions.{is_shown, Sound, Holds, shown_row, Opened, NotOpened, AfterOpening}
 
 module _ {H : Type 0} (m m' : Meaning) (s s' : Session H) (a a' : List ℕ) where
   refused_sound : (f : Fault) → NotOpened f m m' s s' a a' → Sound m s → Sound m' s'
   refused_sound f n h = record {
-    places = λ o. ap (λ (x : Meaning). x.bound) n.host ∙ h.places (sym n.opened ∙ o) ∙ ap (λ (t : ColumnTable). Some (binds t)) (sym n.table);
-    as_many = λ o. ap (λ (t : ColumnTable). count_of t) n.table ∙ h.as_many (sym n.opened ∙ o) ∙ ap (λ (x : Meaning). length x.columns) (sym n.host);
-    carried = λ o.
-        ap (λ (x : Meaning). all_carried x.carries 0 (pairs_of s'.table)) n.host
-        ∙ ap (λ (t : ColumnTable). all_carried m.carries 0 (pairs_of t)) n.table
-        ∙ h.carried (sym n.opened ∙ o);
+    places = λ o. rw (n.host, n.table) (h.places (sym n.opened ∙ o));
+    as_many = λ o. rw (n.host, n.table) (h.as_many (sym n.opened ∙ o));
+    carried = λ o. rw (n.host, n.table) (h.carried (sym n.opened ∙ o));
     opened_first = λ o. n.opened ∙ h.opened_first (sym n.shown ∙ o);
     a_row = λ o e. h.a_row (sym n.shown ∙ o) (sym (ap (λ (x : Meaning). x.current) n.host) ∙ e);
   }
@@ -34,16 +31,16 @@ module _ {H : Type 0} (m m' : Meaning) (s s' : Session H) (a a' : List ℕ) wher
   refused_holds : (f : Fault) → NotOpened f m m' s s' a a' → Holds m s a → Holds m' s' a'
   refused_holds f n h = record {
     whole = λ r e k l.
-        let same : shown_row m' s' ≡ shown_row m s = ap (λ (b : Bool). cond b m'.current None) n.shown ∙ ap (λ (x : Meaning). cond (is_shown s) x.current None) n.host in
+        let same : shown_row m' s' ≡ shown_row m s = rw (n.shown, n.host) refl in
         subst (λ (b : List ℕ). StandsWhole (field_at r k (pair_of (col s'.table k))) (col s'.table k) b) (sym n.same_arena)
         (subst (λ (t : ColumnTable). k < count_of t → StandsWhole (field_at r k (pair_of (col t k))) (col t k) a) (sym n.table) (h.whole r (sym same ∙ e) k) l);
   }
 
   granted_sound : (pairs : List Column) → Opened m m' s s' pairs a a' → all_carried m.carries 0 pairs ≡ true → length pairs ≡ length m.columns → Sound m' s'
   granted_sound pairs o c l = record {
-    places = λ _. ap (λ (x : Meaning). x.bound) o.host;
-    as_many = λ _. o.table.as_many ∙ l ∙ ap (λ (x : Meaning). length x.columns) (sym o.host);
-    carried = λ _. ap (λ (x : Meaning). all_carried x.carries 0 (pairs_of s'.table)) o.host ∙ ap (all_carried m.carries 0) o.bound_with ∙ c;
+    places = λ _. rw o.host refl;
+    as_many = λ _. rw o.host (o.table.as_many ∙ l);
+    carried = λ _. rw (o.host, o.bound_with) c;
     opened_first = λ _. o.opened;
     a_row = λ p e. not_both (is_shown s') p o.no_row;
   }

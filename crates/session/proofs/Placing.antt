@@ -1,16 +1,15 @@
 -- The columns of an opening: what the host answers to their places.
-use Rattle.std.proofs.Common.{◌≡◌, ℕ, ◌<◌, ◌≤◌, Bool, true, false, cond, eqb, ltb, List, ◌++◌, ◌-◌, ◌+◌, length, get_or, take, drop, replicate, Some, Ok, Err, Option, Result, sym, refl, ap, ◌∙◌, arith}
+use Rattle.std.proofs.Common.{◌≡◌, ℕ, ◌<◌, ◌≤◌, Bool, true, false, cond, eqb, List, ◌++◌, ◌-◌, ◌+◌, length, get_or, take, drop, replicate, Some, Ok, Err, Option, sym, refl, ap, ◌∙◌, arith}
 use Rattle.std.proofs.lemmas.List.{ext_get_or, get_or_append_left, get_or-append_right, get_or-replicate, get_or-drop, length-replicate, length-take-le}
 use Rattle.std.proofs.lemmas.Bool.{le-ltb}
 use Rattle.mysql.specs.declared.bind.Column.{Column}
 use Rattle.mysql.specs.declared.fault.Fault.{Fault}
-use Rattle.mysql.specs.declared.fault.Refusal.TheVariants.{AlreadyOpened, ArenaLength, LayoutTooLong}
 use Rattle.mysql.specs.Answers.{next}
-use Rattle.mysql.specs.Faults.{refused, host_failed}
+use Rattle.mysql.specs.Faults.{host_failed}
 use Rattle.mysql.specs.declared.backend.MysqlType.{MysqlType}
 use Rattle.host.specs.declared.records.BindRecord.{BindRecord}
 use Rattle.host.specs.Meanings.{Meaning}
-use Rattle.host.specs.Calls.{with_error, bind_error, bound_list, after_bind}
+use Rattle.host.specs.Calls.{with_error, bind_error, after_bind}
 use Rattle.layout.specs.declared.table.ColumnTable.{ColumnTable}
 use Rattle.layout.specs.Moves.{Beyond}
 use Rattle.layout.specs.Tables.{no_pair, binds, opening_size, OpeningTable}
@@ -41,7 +40,7 @@ module _ (a front : List ℕ) (n : ℕ) (l : n ≤ length a) (e : front ≡ repl
 
 -- places that fit the arena
 pub fits_arena : (n : ℕ) (carries : ℕ → ℕ → Bool) (pairs : List Column) → opening_size pairs ≤ n → placed n carries pairs ≡ cond (all_carried carries 0 pairs) (Ok pairs) (Err (host_failed 2036))
-fits_arena n carries pairs l = ap (λ (b : Bool). cond b (Err (refused LayoutTooLong)) (cond (all_carried carries 0 pairs) (Ok pairs) (Err (host_failed 2036)))) (le-ltb n (opening_size pairs) l)
+fits_arena n carries pairs l = rw (le-ltb n (opening_size pairs) l) refl
 
 bind_yes : (b : Bool) → eqb (cond b 0 2036) 0 ≡ true → b ≡ true
 bind_yes true e = refl
@@ -55,50 +54,46 @@ module _ (m m' : Meaning) (pairs : List Column) (n : ℕ) (t : ColumnTable) (rec
     (o : OpeningTable pairs n t) (as_many : length pairs ≡ length m.columns) (fits : opening_size pairs ≤ n)
     (same : records ≡ binds t) (answer : r ≡ eqb (bind_error m records) 0) (after : m' ≡ after_bind m records) where
   error_is : bind_error m records ≡ cond (all_carried m.carries 0 pairs) 0 2036
-  error_is = ap (bind_error m) same ∙ bind_error_is m t (o.as_many ∙ as_many) ∙ ap (λ (ps : List Column). cond (all_carried m.carries 0 ps) 0 2036) (pairs_are pairs n t o)
+  error_is = rw (same, bind_error_is m t (o.as_many ∙ as_many), pairs_are pairs n t o) refl
 
   module _ (yes : r ≡ true) where
     pub all_there : all_carried m.carries 0 pairs ≡ true
     all_there = bind_yes (all_carried m.carries 0 pairs) (sym (ap (λ (e : ℕ). eqb e 0) error_is) ∙ sym answer ∙ yes)
 
     pub granted_due : placed n m.carries pairs ≡ Ok pairs
-    granted_due = fits_arena n m.carries pairs fits ∙ ap (λ (b : Bool). cond b (Ok pairs) (Err (host_failed 2036))) all_there
+    granted_due = fits_arena n m.carries pairs fits ∙ rw all_there refl
 
     no_error : bind_error m records ≡ 0
-    no_error = error_is ∙ ap (λ (b : Bool). cond b 0 2036) all_there
+    no_error = error_is ∙ rw all_there refl
 
     pub granted_host : m' ≡ record { columns = m.columns; carries = m.carries; coming = m.coming; current = m.current; bound = Some (binds t); error = 0 }
-    granted_host =
-        after
-        ∙ ap (λ (e : ℕ). record { columns = m.columns; carries = m.carries; coming = m.coming; current = m.current; bound = bound_list e records m.bound; error = e }) no_error
-        ∙ ap (λ (bs : List BindRecord). record { columns = m.columns; carries = m.carries; coming = m.coming; current = m.current; bound = Some bs; error = 0 }) same
+    granted_host = after ∙ rw (no_error, same) refl
 
   module _ (no : r ≡ false) where
     missing : all_carried m.carries 0 pairs ≡ false
     missing = bind_no (all_carried m.carries 0 pairs) (sym (ap (λ (e : ℕ). eqb e 0) error_is) ∙ sym answer ∙ no)
 
     pub an_error : bind_error m records ≡ 2036
-    an_error = error_is ∙ ap (λ (b : Bool). cond b 0 2036) missing
+    an_error = error_is ∙ rw missing refl
 
     pub refused_host : m' ≡ with_error 2036 m
-    refused_host = after ∙ ap (λ (e : ℕ). record { columns = m.columns; carries = m.carries; coming = m.coming; current = m.current; bound = bound_list e records m.bound; error = e }) an_error
+    refused_host = after ∙ rw an_error refl
 
     pub refused_due : placed n m.carries pairs ≡ Err (host_failed 2036)
-    refused_due = fits_arena n m.carries pairs fits ∙ ap (λ (b : Bool). cond b (Ok pairs) (Err (host_failed 2036))) missing
+    refused_due = fits_arena n m.carries pairs fits ∙ rw missing refl
 
 -- an opening whose checks pass answers as its columns are placed
 past_both : (n : ℕ) (carries : ℕ → ℕ → Bool) (wanted : List (Option MysqlType)) (columns : List Column) (opened : Bool) → opened ≡ false → n ≤ 65536 → opening opened n carries wanted columns ≡ next (bound wanted columns) (placed n carries)
 past_both n carries wanted columns opened e l =
-    ap (λ (z : Bool). cond z (Err (refused AlreadyOpened)) (cond (ltb most_bytes n) (Err (refused ArenaLength)) (next (bound wanted columns) (placed n carries)))) e
-    ∙ ap (λ (z : Bool). cond z (Err (refused ArenaLength)) (next (bound wanted columns) (placed n carries))) (le-ltb most_bytes n l)
+    rw (e, le-ltb most_bytes n l) refl
 
 pub opened_due : (n : ℕ) (carries : ℕ → ℕ → Bool) (wanted : List (Option MysqlType)) (columns pairs : List Column) (opened : Bool) → opened ≡ false → n ≤ 65536
     → bound wanted columns ≡ Ok pairs → opening opened n carries wanted columns ≡ placed n carries pairs
 opened_due n carries wanted columns pairs opened e l b =
-    past_both n carries wanted columns opened e l ∙ ap (λ (z : Result (List Column) Fault). next z (placed n carries)) b
+    past_both n carries wanted columns opened e l ∙ rw b refl
 
 -- where a column is refused, so is the opening
 pub opened_refused : (n : ℕ) (carries : ℕ → ℕ → Bool) (wanted : List (Option MysqlType)) (columns : List Column) (f : Fault) (opened : Bool) → opened ≡ false → n ≤ 65536
     → bound wanted columns ≡ Err f → opening opened n carries wanted columns ≡ Err f
 opened_refused n carries wanted columns f opened e l b =
-    past_both n carries wanted columns opened e l ∙ ap (λ (z : Result (List Column) Fault). next z (placed n carries)) b
+    past_both n carries wanted columns opened e l ∙ rw b refl

@@ -21,7 +21,7 @@ use Rattle.session.specs.declared.state.Value.{Value}
 use Rattle.readings.specs.declared.value.MysqlValue.{MysqlValue}
 use Rattle.readings.specs.Nulls.{nullable}
 use Rattle.rows.specs.Bounds.{field_at}
-use Rattle.rows.specs.Dues.{faulted, read_as, typed, field_shown, row_shown, read}
+use Rattle.rows.specs.Dues.{faulted, read_as, field_shown, row_shown, read}
 use Rattle.rows.specs.Standing.{pair_of, pairs_of, StandsWhole}
 use Rattle.session.specs.Sessions.{is_open, is_shown, Sound, Holds, shown_row, passes, past_checks, record_shown, reading, viewed}
 
@@ -87,8 +87,7 @@ module _ {H : Type 0} (s : Session H) (a : List ℕ) (p : passes s a ≡ true) w
   pub past : {X : Type 0} (x : Result X Fault) → past_checks s (length a) x ≡ x
   past x =
       let q = and_parts (is_open s) (eqb (length a) s.table.room) p in
-      ap (λ (b : Bool). cond b (cond (eqb (length a) s.table.room) x (Err (refused ArenaLength))) (Err (refused Unopened))) q.0
-      ∙ ap (λ (b : Bool). cond b x (Err (refused ArenaLength))) q.1
+      rw (q.0, q.1) refl
 
 -- bytes that are read where a row is shown and the column is not null
 module _ {H : Type 0} (s : Session H) (a : List ℕ) (k : ℕ) where
@@ -101,11 +100,7 @@ module _ {H : Type 0} (s : Session H) (a : List ℕ) (k : ℕ) where
       let there = take (bytes_of c) (drop c.start a) in
       sym (
       past s a p (cond (ltb k (count_of s.table)) (cond (is_shown s) (record_shown k c a) (Err (refused NoCurrentRow))) (Err (refused NoSuchColumn)))
-      ∙ ap (λ (z : Bool). cond z (cond (is_shown s) (record_shown k c a) (Err (refused NoCurrentRow))) (Err (refused NoSuchColumn))) (lt-ltb k (count_of s.table) l)
-      ∙ ap (λ (z : Bool). cond z (record_shown k c a) (Err (refused NoCurrentRow))) h
-      ∙ ap (λ (z : Bool). cond z (Ok None) (typed k there (type_of c.code c.flags))) n
-      ∙ ap (typed k there) t
-      ∙ ap (λ (z : List ℕ). Ok (Some (record { tpe = tpe; bytes = z }))) (sym b)
+      ∙ rw (lt-ltb k (count_of s.table) l, h, n, t, b) refl
       )
 
 -- bytes that stand one after the other are those of the part
@@ -116,10 +111,9 @@ part_is bs a at n e l h =
 
 -- a column that holds a field whole shows it
 whole_shown : (k : ℕ) (c : ColumnRecord) (f : Field) (a : List ℕ) → (c.is_null ≡ false → c.start + bytes_of c ≤ length a) → StandsWhole f c a → record_shown k c a ≡ field_shown k (pair_of c) f
-whole_shown k c null a i w = ap (λ (z : Bool). cond z (Ok None) (typed k (take (bytes_of c) (drop c.start a)) (type_of c.code c.flags))) w
+whole_shown k c null a i w = rw w refl
 whole_shown k c (held lost bs) a i w =
-    ap (λ (z : Bool). cond z (Ok None) (typed k (take (bytes_of c) (drop c.start a)) (type_of c.code c.flags))) w.0
-    ∙ ap (λ (z : List ℕ). typed k z (type_of c.code c.flags)) (part_is bs a c.start (bytes_of c) w.1 (i w.0) w.2)
+    rw (w.0, part_is bs a c.start (bytes_of c) w.1 (i w.0) w.2) refl
 
 module _ {H : Type 0} (m : Meaning) (s : Session H) (a : List ℕ) (k : ℕ) (sound : Sound m s) (holds : Holds m s a) (p : passes s a ≡ true) where
   abbrev t : ColumnTable

@@ -23,7 +23,8 @@ fn bound_column<H: Host>(
     taken(wanted.get(i).copied().flatten(), host.column(i))
 }
 
-// The codes and flags that all columns are bound with. A loop over numbers, since a host gives a column by its number, as the C API does.
+// The codes and flags that all columns are bound with. A loop over numbers, since a host gives a column by its number, as the C API does, and
+// there may be fewer or more wanted types than columns.
 fn bound_columns<H: Host>(
     host: &H,
     wanted: &[Option<MysqlType>],
