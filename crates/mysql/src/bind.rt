@@ -25,7 +25,7 @@ impl Column {
     }
 }
 
-// The code and flags that stand for a type.
+// The code and flags that stand for a type. (A tuple, and no `Column`: the original converts to and from this one.)
 impl From<MysqlType> for (u8, u32) {
     ghost from_gives = { λ tpe pair. pair ≡ pair_of tpe };
 
@@ -107,7 +107,7 @@ pub fn known_buffer_size_for_ffi_type(code: u8) -> Option<usize>
         MYSQL_TYPE_SHORT | MYSQL_TYPE_YEAR => Some(2),
         MYSQL_TYPE_LONG | MYSQL_TYPE_FLOAT | MYSQL_TYPE_INT24 => Some(4),
         MYSQL_TYPE_DOUBLE | MYSQL_TYPE_LONGLONG => Some(8),
-        MYSQL_TYPE_TIMESTAMP | MYSQL_TYPE_DATE..=MYSQL_TYPE_DATETIME => Some(48),
+        MYSQL_TYPE_TIMESTAMP | MYSQL_TYPE_DATE..=MYSQL_TYPE_DATETIME => Some(MYSQL_TIME_SIZE),
         _ => None,
     }
 }

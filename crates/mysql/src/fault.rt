@@ -75,9 +75,10 @@ pub const NO_COLUMN: u8 = 255;
 #[derive(Clone, Copy, PartialEq, Eq, Debug)]
 pub struct Fault {
     refusal: Refusal,
-    // the column, where the refusal can name one; 255 is none. No Option: `at(255)` has to equal the fault without one
+    // The column, where the refusal can name one; 255 is none. (No Option: it would be made of 255 and turned into 255 again, since `at(255)` has to equal
+    // the fault without a column.)
     column: u8,
-    // the host's error number, where the host failed; 0 where none is known. No Option: `host(0)` has to equal that fault
+    // The host's error number, where the host failed; 0 where none is known. (No Option: likewise, since `host(0)` has to equal the fault without a number.)
     host: u16,
 }
 

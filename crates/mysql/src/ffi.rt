@@ -63,6 +63,9 @@ pub const MYSQL_TYPE_STRING: u8 = 254;
 
 pub const MYSQL_TYPE_GEOMETRY: u8 = 255;
 
+// How many bytes a MYSQL_TIME takes.
+pub const MYSQL_TIME_SIZE: usize = 48;
+
 // The number has no sign.
 pub const UNSIGNED_FLAG: u32 = 32;
 // The text is binary data.

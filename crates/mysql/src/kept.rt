@@ -33,7 +33,7 @@ const MEMBER: [bool; 31] = [
 // Any other type: none.
 const NOTHING: [bool; 31] = [N; 31];
 
-// A row for each type, by its number.
+// A row for each type, by its number. (A table, and no match of ranges: all pairs are to stand in one, as docs/types.md says.)
 const KEPT: [[bool; 31]; 20] = [
     NUMBER, // Tiny
     NUMBER, // UnsignedTiny

@@ -11,6 +11,6 @@ mod result;
 pub use backend::MysqlType;
 pub use bind::{Column, known_buffer_size_for_ffi_type, known_flags, round_trip, taken};
 pub use fault::{Fault, HostError, Layer, NO_COLUMN, Refusal, last_error_type};
-pub use ffi::{MYSQL_TYPE_NULL, MYSQL_TYPE_VAR_STRING};
+pub use ffi::{MYSQL_TIME_SIZE, MYSQL_TYPE_NULL, MYSQL_TYPE_VAR_STRING};
 pub use kept::{is_kept, kept_pairs};
 pub use result::DatabaseErrorKind;

@@ -5,11 +5,9 @@ ghost use Rattle.mysql.specs.Ranges.{between};
 ghost use Rattle.readings.specs.Times.{record_at, time};
 
 use crate::value::MysqlValue;
-use mysql::{Fault, MysqlType, Refusal};
+use mysql::{Fault, MYSQL_TIME_SIZE, MysqlType, Refusal};
 
-// The size of the record, and where its sign lies.
-const SIZE: usize = 48;
-
+// Where the record's sign lies.
 const SIGN: usize = 32;
 
 // A date, a time or both, in the order of the fields of MYSQL_TIME. Nothing checks that they are one of a calendar.
@@ -58,7 +56,7 @@ pub fn time_value(value: &MysqlValue) -> Result<MysqlTime, Fault>
         return Err(Fault::new(Refusal::WrongType));
     }
     let raw = value.as_bytes();
-    if raw.len() < SIZE {
+    if raw.len() < MYSQL_TIME_SIZE {
         return Err(Fault::new(Refusal::TooShort));
     }
     match raw[SIGN] {
