@@ -1,4 +1,7 @@
 // What the session and the client library hand each other.
+ghost use Rattle.std.specs.Prelude.{◌≡◌};
+ghost use Rattle.mysql.specs.Types.{has};
+
 use mysql::{Column, MYSQL_TYPE_NULL};
 
 // The most columns that a host has.
@@ -18,6 +21,19 @@ pub struct BindRecord {
     pub unsigned: bool,
     pub start: usize,
     pub capacity: usize,
+}
+
+// A column at its own code and sign (flag 32: without), in no place.
+impl From<Column> for BindRecord {
+    ghost from_gives = { λ column told. told ≡ record { code = column.code; unsigned = has column.flags 32; start = 0; capacity = 0 } };
+
+    fn from(column: Column) -> BindRecord {
+        BindRecord {
+            code: column.code,
+            unsigned: column.is_unsigned(),
+            ..BindRecord::default()
+        }
+    }
 }
 
 // What came of a column: how long its bytes are in full, whether it is null, and whether it lost bytes or a figure. Two flags beside a length,

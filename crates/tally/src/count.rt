@@ -5,7 +5,7 @@ ghost use Rattle.tally.specs.Reports.{with_report, with_row};
 
 use crate::records::own_records;
 use crate::totals::Totals;
-use host::{Fetched, Host, Report};
+use host::{Fetched, Host, MOST_COLUMNS, Report, bind_all};
 
 // A report more.
 fn add_report(totals: Totals, report: &Report) -> Totals
@@ -67,10 +67,8 @@ pub fn tally<H: Host>(host: &mut H) -> Option<Totals>
     ensures { Tallied result (H.Host.meaning host.old) (H.Host.meaning host.new) }
 {
     let records = own_records(host);
-    if !host.bind(&records) {
-        return None;
-    }
+    bind_all(host, &records).ok()?;
     // an array, since it is the host that fills it
-    let mut reports = [Report::default(); 64];
+    let mut reports = [Report::default(); MOST_COLUMNS];
     Some(count_events(host, &mut reports[..records.len()]))
 }

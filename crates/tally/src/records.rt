@@ -1,29 +1,17 @@
 // Each column at its own code and sign, with no room for its bytes.
 ghost use Rattle.std.specs.Prelude.{◌≡◌};
-ghost use Rattle.tally.specs.Tallies.{own_record, own_records};
+ghost use Rattle.tally.specs.Tallies.{own_records};
 
 use arrayvec::ArrayVec;
-use host::{BindRecord, Host};
-use mysql::Column;
-
-// A column at its own code and sign. (No `From`: both types are other crates'.)
-fn own_record(column: Column) -> BindRecord
-    ensures { result ≡ own_record column }
-{
-    BindRecord {
-        code: column.code,
-        unsigned: column.is_unsigned(),
-        ..BindRecord::default()
-    }
-}
+use host::{BindRecord, Host, MOST_COLUMNS};
 
 // The records of a host's columns. A loop over numbers, since a host gives a column by its number, as the C API does.
-pub(crate) fn own_records<H: Host>(host: &H) -> ArrayVec<BindRecord, 64>
+pub(crate) fn own_records<H: Host>(host: &H) -> ArrayVec<BindRecord, MOST_COLUMNS>
     ensures { result.items ≡ own_records (H.Host.meaning host.now).columns }
 {
     let mut records = ArrayVec::new();
     for i in 0..host.column_count() {
-        records.push(own_record(host.column(i)));
+        records.push(BindRecord::from(host.column(i)));
     }
     records
 }
