@@ -36,7 +36,7 @@ impl ColumnTable {
         }
     }
 
-    // The same columns, one after another, with these capacities. None where the arena is too short for these.
+    // The same columns, one after another, with these capacities. None where the arena is too short for these. (A loop, as at an opening.)
     pub(crate) fn relaid<F: Fn(&ColumnRecord) -> usize>(&self, capacity: F) -> Option<ColumnTable>
         requires callable { F.IsAlwaysCallable capacity }
         requires layout { (tight : Bool) × RuleOf (FnReturnsAt F.Fn capacity) tight }

@@ -5,7 +5,7 @@ ghost use Rattle.layout.specs.Tables.{count_of, col, NotedAt, Noted, SamePlaces,
 use crate::record::ColumnRecord;
 use crate::table::ColumnTable;
 use arrayvec::ArrayVec;
-use host::{BindRecord, Report};
+use host::{BindRecord, MOST_COLUMNS, Report};
 
 impl ColumnTable {
     // How many columns there are.
@@ -33,7 +33,7 @@ impl ColumnTable {
         }
     }
 
-    // Notes the report of each column that has one.
+    // Notes the report of each column that has one. (By number: of what a `zip` with `iter_mut` leaves behind nothing is known.)
     pub fn note_all(&mut self, reports: &[Report])
         ensures noted { count_of self.old ≤ length reports.now → Noted self.old reports.now self.new }
         ensures places { SamePlaces self.old self.new }
@@ -58,8 +58,8 @@ impl ColumnTable {
         !self.columns.iter().any(ColumnRecord::is_over)
     }
 
-    // What the host is to be told of the columns.
-    pub fn bind_records(&self) -> ArrayVec<BindRecord, 64>
+    // What the host is to be told of the columns. (A loop: `collect` into an ArrayVec can fail, and its caller sees only the Ok case.)
+    pub fn bind_records(&self) -> ArrayVec<BindRecord, MOST_COLUMNS>
         ensures { result.items ≡ binds self.now }
     {
         let mut records = ArrayVec::new();
@@ -69,7 +69,7 @@ impl ColumnTable {
         records
     }
 
-    // Where the places end.
+    // Where the places end. (No map_or: the sum in a closure needs a fact of the element.)
     pub fn end(&self) -> usize
         ensures { result ≡ end_of self.now }
     {

@@ -26,7 +26,8 @@ impl ColumnTable {
     }
 
     // The table of columns that are bound with these codes and flags, in an arena of `room` bytes: places of the least capacity, one
-    // after another. None where there are too many columns, or the arena is too long, or too short for the places.
+    // after another. None where there are too many columns, or the arena is too long, or too short for the places. (A loop: a push may
+    // refuse, and needs the end of the places before.)
     pub fn opening(columns: &[Column], room: usize) -> Option<ColumnTable>
         ensures { Opens columns.now room result }
     {

@@ -6,7 +6,8 @@ use host::{BindRecord, Report};
 use mysql::Column;
 
 // The code and flags that it is bound with, its place in the arena, and what the host last reported of it: the length of its bytes in
-// full, whether it is null, and whether bytes or a figure were lost. All in one, as the original has it, and the flags as MYSQL_BIND has them.
+// full, whether it is null, and whether bytes or a figure were lost; the flags are as MYSQL_BIND has them. (A `Column` and a `Report` in it
+// would be no plainer: a reader of a record wants one of the seven, and would write one name more.)
 #[derive(Clone, Copy, Default)]
 pub struct ColumnRecord {
     pub code: u8,
@@ -42,10 +43,9 @@ impl From<ColumnRecord> for BindRecord {
             flags: column.flags,
         };
         BindRecord {
-            code: column.code,
-            unsigned: pair.is_unsigned(),
             start: column.start,
             capacity: column.capacity,
+            ..BindRecord::from(pair)
         }
     }
 }

@@ -44,7 +44,8 @@ fn play_through<H: Host>(heap: Global, host: H, arena: &mut [u8], calls: &[Call]
     }
 }
 
-// Plays calls over a new session: it has the host, which is handed back freed, and one arena.
+// Plays calls over a new session: it has the host, which is handed back freed, and one arena. (Heap, host, arena and calls one by one, here
+// and in `play_both`: a caller has them so, and a struct made for one call would be no plainer.)
 pub fn play<H: Host>(heap: Global, host: H, arena: &mut [u8], calls: &[Call]) -> Played<H>
     ensures host { H.Host.meaning result.host ≡ freed (H.Host.meaning host) }
     ensures lawful { LawfulTo (H.Host.meaning host) (length arena.old) calls.now result.answers }

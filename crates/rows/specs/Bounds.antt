@@ -1,6 +1,6 @@
 -- Bound columns: the code and flags that each column of a result is bound with, and what a row is to columns so bound. Nothing here
 -- speaks of places, capacities or earlier rows.
-use Rattle.std.specs.Prelude.{◌≡◌, ℕ, suc, ◌+◌, max, Bool, true, false, cond, ◌&&◌, List, [], ◌∷◌, length, take, Some, None, Ok, Err, Option, Result, slice_index_or}
+use Rattle.std.specs.Prelude.{ℕ, suc, ◌+◌, max, Bool, true, false, cond, ◌&&◌, List, [], ◌∷◌, length, Some, None, Ok, Err, Option, Result, slice_index_or}
 use Rattle.mysql.specs.declared.backend.MysqlType.{MysqlType}
 use Rattle.mysql.specs.declared.bind.Column.{Column}
 use Rattle.mysql.specs.declared.fault.Fault.{Fault}
@@ -61,8 +61,3 @@ loses (Some size) (held lost bs) = lost
 abbrev pub first_loss : Row → ℕ → List Column → Option ℕ
 first_loss r k [] = None
 first_loss r k (c ∷ cs) = cond (loses (size_of c.code) (field_at r k c)) (Some k) (first_loss r (suc k) cs)
-
--- an array whose front has the bound columns, or their refusal
-abbrev pub BoundTo : List (Option MysqlType) → List Column → Result (List Column) Fault → Type 0
-BoundTo wanted columns (Ok pairs) = bound wanted columns ≡ Ok (take (length columns) pairs)
-BoundTo wanted columns (Err f) = bound wanted columns ≡ Err f

@@ -53,7 +53,8 @@ fn grow<H: Host>(host: &mut H, old: &ColumnTable, arena: &mut [u8]) -> Result<Co
     Ok(new)
 }
 
-// Fetches what is missing of each column that was longer than its old place, from there on.
+// Fetches what is missing of each column that was longer than its old place, from there on. (The new columns by number, since they are
+// noted meanwhile. No other function here asks that one table is the other one grown: a struct of both would be no plainer.)
 fn fetch_missing<H: Host>(
     host: &mut H,
     old: &ColumnTable,

@@ -1,4 +1,4 @@
-use Rattle.std.proofs.Common.{◌≡◌, ℕ, ◌<◌, ◌≤◌, true, false, Some, None, Option, MatchOption, arith, rules}
+use Rattle.std.proofs.Common.{◌<◌, ◌≤◌, true, false, Some, None, Option, MatchOption, arith, rules}
 use Rattle.layout.specs.declared.table.ColumnTable.{ColumnTable}
 use Rattle.layout.specs.Tables.{Grown, Relaid, need, sum_of}
 use Rattle.layout.proofs.Wanting.{need_wide}
