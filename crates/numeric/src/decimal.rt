@@ -39,9 +39,7 @@ fn integer_part(text: &str, half: u64) -> Result<i64, Fault>
 pub fn decimal_to_integer<T: Target>(bytes: &[u8]) -> Result<T, Fault>
     ensures { through T.Target.whole result ≡ decimal T.Target.half bytes.now }
 {
-    let Ok(text) = std::str::from_utf8(bytes) else {
-        return Err(Fault::new(Refusal::NotUtf8));
-    };
+    let text = std::str::from_utf8(bytes).map_err(|_| Fault::new(Refusal::NotUtf8))?;
     if count_dots(bytes) > 1 {
         return Err(Fault::new(Refusal::ManyDots));
     }
