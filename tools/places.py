@@ -4,7 +4,8 @@
     python3 tools/places.py [--list] [FOLDER]
 
 FOLDER is a checkout of this repository, this one if none is given. With --list each place is printed. A place is one to look at, not a fault:
-the page says of each that is left why it stays.
+the page says of each that is left why it stays. It goes by text, and some patterns name functions that stood when it was written, so that it
+finds again what was found, and not all that may be written later.
 """
 import collections
 import itertools
