@@ -10,7 +10,8 @@ use session::{Session, Slip};
 use std::alloc::Global;
 
 // A session, the slip of its opening once one was granted, and the one arena that its calls are made over. That the session is ready
-// over the arena, `IsReady`, is a `requires` of each call and not a ghost field: it may have more than one proof.
+// over the arena, `IsReady`, is a `requires` of each call and not a ghost field: it speaks of what the host means, so that the struct would
+// have a bound, and every definition that names a player the host's ghost members.
 pub(crate) struct Player<'a, H> {
     pub(crate) heap: Global,
     pub(crate) session: Session<H>,
@@ -92,7 +93,7 @@ impl<'a, H: Host> Player<'a, H> {
             .map_or_else(Answer::Refused, held_by)
     }
 
-    // One call.
+    // One call. A match, since a call is data that comes from outside.
     pub(crate) fn answer(&mut self, call: Call) -> Result<Answer, PlayError>
         requires { IsReady H.Host.meaning self.old }
         ensures { AnswersIf H.Host.meaning (asked_of call.entry) result self.old self.new }
