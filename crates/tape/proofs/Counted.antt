@@ -1,7 +1,7 @@
 -- Columns lie in their bytes at every fifth place.
 -- Assumes nothing.
-use Rattle.std.proofs.Common.{◌≡◌, ℕ, zero, suc, ◌+◌, ◌*◌, ◌/◌, ◌%◌, ◌^◌, List, [], ◌∷◌, length, get_or, take, drop, sym, refl, ap, ◌∙◌, arith}
-use Rattle.std.proofs.lemmas.List.{get_or-drop}
+use Rattle.std.proofs.Common.{◌≡◌, ℕ, zero, suc, ◌+◌, ◌*◌, ◌/◌, ◌%◌, ◌^◌, ◌≤◌, List, [], ◌∷◌, length, get_or, take, drop, sym, refl, ap, ◌∙◌, arith}
+use Rattle.std.proofs.lemmas.List.{get_or-drop, length-drop}
 use Rattle.mysql.specs.declared.bind.Column.{Column}
 use Rattle.host.specs.Meanings.{no_column}
 use Rattle.tape.specs.Decode.{taken, broken, take_column}
@@ -52,5 +52,5 @@ first_after n bs =
 pub column_at : (n : ℕ) (bs : List ℕ) (c : Column) (r : List ℕ) → take_column (drop (5 * n) bs) ≡ taken c r → get_or (columns_in bs) n no_column ≡ c
 column_at n bs c r h = first_after n bs ∙ ap (λ cs. get_or cs 0 no_column) (columns_first (drop (5 * n) bs) c r h).0
 
-pub column_none : (n : ℕ) (bs : List ℕ) → take_column (drop (5 * n) bs) ≡ broken → get_or (columns_in bs) n no_column ≡ no_column
-column_none n bs h = first_after n bs ∙ ap (λ cs. get_or cs 0 no_column) (columns_none (drop (5 * n) bs) h)
+pub column_none : (n : ℕ) (bs : List ℕ) → take_column (drop (5 * n) bs) ≡ broken → length (columns_in bs) ≤ n
+column_none n bs h = omega (arith, length-drop n (columns_in bs), ap length (sym (columns_after n bs) ∙ columns_none (drop (5 * n) bs) h))
