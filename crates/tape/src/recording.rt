@@ -16,8 +16,8 @@ use mysql::{Column, Fault, Refusal};
 // How many bytes a column takes.
 pub const COLUMN_SIZE: usize = 5;
 
-// Bytes that are a tape: those of its columns, those of its events, and how many events there are. They stand here and not as `Events`: a
-// contract knows no bound of a count one struct further in, and `events` has to promise one.
+// Bytes that are a tape: those of its columns, those of its events, and how many events there are, which no slice of bytes knows. They stand
+// here and not as `Events`: a contract knows no bound of a count one struct further in, and `events` has to promise one.
 #[derive(Clone, Copy)]
 pub struct Recording<'a> {
     pub(crate) columns: &'a [u8],
@@ -139,7 +139,7 @@ impl Iterator for Columns<'_> {
     }
 }
 
-// The events that are to come.
+// The events that are to come. Their count stands beside their bytes, since no slice of bytes knows how many events it holds.
 #[derive(Clone, Copy)]
 pub struct Events<'a> {
     pub(crate) columns: &'a [u8],

@@ -1,4 +1,5 @@
--- What a tape means keeps to what every host's meaning keeps to.
+-- What a tape means keeps to what every host's meaning keeps to. The proof stands here, since the host's ghost member names it, and such a
+-- member may name nothing of proofs/.
 use Rattle.std.proofs.Common.{refl, sym, subst, arith}
 use Rattle.std.specs.Prelude.{◌≡◌, ℕ, List, [], ◌∷◌, map, length, get_or, Some, None, Option, ◌==◌, nat_lt, slice_index_or}
 use Rattle.std.specs.List.{AllByRecursion}
