@@ -1,7 +1,7 @@
 -- Columns lie in their bytes at every fifth place.
 -- Assumes nothing.
-use Rattle.std.proofs.Common.{◌≡◌, ℕ, zero, suc, ◌+◌, ◌*◌, ◌/◌, ◌%◌, ◌^◌, List, [], ◌∷◌, length, get_or, take, drop, sym, refl, ap, ◌∙◌, arith}
-use Rattle.std.proofs.lemmas.List.{get_or-drop}
+use Rattle.std.proofs.Common.{◌≡◌, ℕ, zero, suc, ◌+◌, ◌*◌, ◌/◌, ◌≤◌, List, [], ◌∷◌, length, get_or, drop, sym, refl, ap, ◌∙◌, arith}
+use Rattle.std.proofs.lemmas.List.{get_or-drop, length-drop}
 use Rattle.mysql.specs.declared.bind.Column.{Column}
 use Rattle.host.specs.Meanings.{no_column}
 use Rattle.tape.specs.Decode.{taken, broken, take_column}
@@ -16,19 +16,6 @@ columns_count (a ∷ b ∷ []) = refl
 columns_count (a ∷ b ∷ c ∷ []) = refl
 columns_count (a ∷ b ∷ c ∷ d ∷ []) = refl
 columns_count (a ∷ b ∷ c ∷ d ∷ e ∷ r) = let h = columns_count r in omega arith
-
--- the first of them
-pub columns_front : (n : ℕ) (bs : List ℕ) → columns_in (take (5 * n) bs) ≡ take n (columns_in bs)
-columns_front zero bs = refl
-columns_front (suc n) bs = let k : 5 * suc n ≡ suc (suc (suc (suc (suc (5 * n))))) = omega arith in ap (λ m. columns_in (take m bs)) k ∙ front (λ r. columns_front n r) bs
-  where
-    front : ((r : List ℕ) → columns_in (take (5 * n) r) ≡ take n (columns_in r)) → (bs : List ℕ) → columns_in (take (suc (suc (suc (suc (suc (5 * n)))))) bs) ≡ take (suc n) (columns_in bs)
-    front h [] = refl
-    front h (a ∷ []) = refl
-    front h (a ∷ b ∷ []) = refl
-    front h (a ∷ b ∷ c ∷ []) = refl
-    front h (a ∷ b ∷ c ∷ d ∷ []) = refl
-    front h (a ∷ b ∷ c ∷ d ∷ e ∷ r) = ap (λ cs. record { code = a % 256; flags = (b + c * 256 + d * 65536 + e * 16777216) % 2 ^ 32 } ∷ cs) (h r)
 
 -- what is left of them after the first
 columns_after : (n : ℕ) (bs : List ℕ) → columns_in (drop (5 * n) bs) ≡ drop n (columns_in bs)
@@ -52,5 +39,5 @@ first_after n bs =
 pub column_at : (n : ℕ) (bs : List ℕ) (c : Column) (r : List ℕ) → take_column (drop (5 * n) bs) ≡ taken c r → get_or (columns_in bs) n no_column ≡ c
 column_at n bs c r h = first_after n bs ∙ ap (λ cs. get_or cs 0 no_column) (columns_first (drop (5 * n) bs) c r h).0
 
-pub column_none : (n : ℕ) (bs : List ℕ) → take_column (drop (5 * n) bs) ≡ broken → get_or (columns_in bs) n no_column ≡ no_column
-column_none n bs h = first_after n bs ∙ ap (λ cs. get_or cs 0 no_column) (columns_none (drop (5 * n) bs) h)
+pub column_none : (n : ℕ) (bs : List ℕ) → take_column (drop (5 * n) bs) ≡ broken → length (columns_in bs) ≤ n
+column_none n bs h = omega (arith, length-drop n (columns_in bs), ap length (sym (columns_after n bs) ∙ columns_none (drop (5 * n) bs) h))

@@ -1,6 +1,6 @@
 -- A whole tape, part by part.
 -- Assumes nothing.
-use Rattle.std.proofs.Common.{◌≡◌, ℕ, zero, suc, ◌+◌, ◌-◌, ◌*◌, ◌%◌, ◌^◌, ◌<◌, ◌≤◌, leb, List, [], ◌∷◌, length, take, drop, Some, None, sym, refl, ap, ◌∙◌, arith}
+use Rattle.std.proofs.Common.{◌≡◌, ℕ, zero, suc, ◌+◌, ◌*◌, ◌%◌, ◌^◌, ◌<◌, ◌≤◌, leb, List, [], ◌∷◌, length, take, drop, Some, None, sym, refl, ap, ◌∙◌, arith}
 use Rattle.std.proofs.lemmas.Bool.{le-leb, lt-leb}
 use Rattle.mysql.specs.declared.bind.Column.{Column}
 use Rattle.host.specs.Fields.{Field}
@@ -103,17 +103,7 @@ module _ (b : List ℕ) (w : ℕ) (r : List ℕ) (hw : take2 b ≡ taken w r) wh
             ∙ ended_here (record { columns = listed; events = p.0 }) d z
             ∙ ap (λ es. taken (record { columns = listed; events = es }) []) (sym (events_in_is listed n q p.0 d p.1))
 
--- going through events and fields
-
-pub events_first : (cs : List Column) (n : ℕ) (bs : List ℕ) (e : Event) (r : List ℕ) → (n ≡ 0 → ⊥) → take_event cs bs ≡ taken e r → events_in cs n bs ≡ e ∷ events_in cs (n - 1) r
-events_first cs zero bs e r z h = absurd (z refl)
-events_first cs (suc n) bs e r z h =
-    let k : n ≡ suc n - 1 = omega arith in
-    ap (λ t. elim t [ taken f q ↦ f ∷ events_in cs n q | broken ↦ [] ]) h ∙ ap (λ m. e ∷ events_in cs m r) k
-
-pub events_none : (cs : List Column) (n : ℕ) (bs : List ℕ) → take_event cs bs ≡ broken → events_in cs n bs ≡ []
-events_none cs zero bs h = refl
-events_none cs (suc n) bs h = ap (λ t. elim t [ taken f q ↦ f ∷ events_in cs n q | broken ↦ [] ]) h
+-- going through fields
 
 pub fields_first : (c : Column) (cs : List Column) (bs : List ℕ) (f : Field) (r : List ℕ) → take_field c.code bs ≡ taken f r → fields_in (c ∷ cs) bs ≡ f ∷ fields_in cs r
 fields_first c cs bs f r h = ap (λ t. elim t [ taken g q ↦ g ∷ fields_in cs q | broken ↦ [] ]) h

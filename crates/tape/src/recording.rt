@@ -1,9 +1,10 @@
 // A recorded result, and how it is gone through: its columns, its events, and the fields of a row, one after the other.
-ghost use Rattle.std.specs.Prelude.{◌≡◌, ◌^◌, ◌<◌, length};
+ghost use Rattle.std.specs.Prelude.{◌≡◌, ◌^◌, ◌<◌, [], length};
 ghost use Rattle.std.specs.Option.{option_map};
 ghost use Rattle.tape.specs.Decode.{take_events, take_tape, left};
 ghost use Rattle.tape.specs.Views.{field_of, row_of, event_of, columns_in};
-ghost use Rattle.tape.specs.Recordings.{whole, Opened, contents_in, contents, Gives, columns_left, events_left, fields_left};
+ghost use Rattle.tape.specs.Recordings.{whole, Opened, contents_in, contents, Gives, GivesEvents, columns_left, event_columns, events_left, fields_left};
+ghost use Rattle.std.specs.List.{slice_get};
 ghost use Rattle.std.specs.Iterator.{at_most};
 
 use crate::event::{Event, Row};
@@ -15,8 +16,8 @@ use mysql::{Column, Fault, Refusal};
 // How many bytes a column takes.
 pub const COLUMN_SIZE: usize = 5;
 
-// Bytes that are a tape: those of its columns, those of its events, and how many events there are. They stand here and not as `Events`: a
-// contract knows no bound of a count one struct further in, and `events` has to promise one.
+// Bytes that are a tape: those of its columns, those of its events, and how many events there are, which no slice of bytes knows. They stand
+// here and not as `Events`: a contract knows no bound of a count one struct further in, and `events` has to promise one.
 #[derive(Clone, Copy)]
 pub struct Recording<'a> {
     pub(crate) columns: &'a [u8],
@@ -57,7 +58,7 @@ impl<'a> Recording<'a> {
         read(bytes).ok_or(Fault::new(Refusal::BrokenTape))
     }
 
-    // The bytes of its columns, those of its events, and how many events there are.
+    // The bytes of its columns, those of its events, and how many events there are, for a caller that keeps them apart.
     pub fn parts(&self) -> (&'a [u8], &'a [u8], u16)
         ensures { contents self.now ≡ contents_in result.0.now result.1.now result.2 }
     {
@@ -77,6 +78,7 @@ impl<'a> Recording<'a> {
     // Its events, one after the other.
     pub fn events(&self) -> Events<'a>
         ensures all { events_left result ≡ (contents self.now).events }
+        ensures columned { event_columns result ≡ (contents self.now).columns }
         ensures few { length (events_left result) < 65536 }
     {
         Events {
@@ -103,6 +105,26 @@ pub struct Columns<'a> {
     pub(crate) bytes: &'a [u8],
 }
 
+impl Columns<'_> {
+    // How many there are.
+    pub fn len(&self) -> usize
+        ensures { result ≡ length (columns_left self.now) }
+    {
+        self.bytes.len() / COLUMN_SIZE
+    }
+
+    // The one at an index, found by its place among the bytes, so that asking for each of them stays linear.
+    pub fn get(&self, i: usize) -> Option<Column>
+        ensures { result ≡ slice_get (columns_left self.now) i }
+    {
+        if i >= self.len() {
+            return None;
+        }
+        let (found, _) = take_column(&self.bytes[COLUMN_SIZE * i..])?;
+        Some(found)
+    }
+}
+
 impl Iterator for Columns<'_> {
     type Item = Column;
 
@@ -117,7 +139,7 @@ impl Iterator for Columns<'_> {
     }
 }
 
-// The events that are to come.
+// The events that are to come. Their count stands beside their bytes, since no slice of bytes knows how many events it holds.
 #[derive(Clone, Copy)]
 pub struct Events<'a> {
     pub(crate) columns: &'a [u8],
@@ -126,7 +148,23 @@ pub struct Events<'a> {
 }
 
 impl<'a> Events<'a> {
-    // The bytes after them. A loop over how many there are: what is gone through is the bytes, and no list.
+    // The columns that each of its rows has a field for.
+    pub fn columns(&self) -> Columns<'a>
+        ensures { columns_left result ≡ event_columns self.now }
+    {
+        let bytes = self.columns;
+        Columns { bytes }
+    }
+
+    // Lets no more of them come.
+    pub fn stop(&mut self)
+        ensures none { events_left self.new ≡ [] }
+        ensures columned { event_columns self.new ≡ event_columns self.old }
+    {
+        self.count = 0;
+    }
+
+    // The bytes after them. A loop over how many there are: what is gone through is the bytes, and no list or slice knows the number.
     fn end(&self) -> Option<&'a [u8]>
         ensures { left (take_events (columns_in self.now.columns.now) self.now.count self.now.bytes.now) ≡ option_map (λ x. x.now) result }
     {
@@ -141,7 +179,7 @@ impl<'a> Events<'a> {
 impl<'a> Iterator for Events<'a> {
     type Item = Event<'a>;
 
-    ghost next_gives = { Gives events_left event_of };
+    ghost next_gives = { GivesEvents };
 
     ghost remaining = { λ s. at_most (length (events_left s)) };
 

@@ -1,27 +1,22 @@
 -- What a tape's calls come to.
 -- Assumes nothing.
-use Rattle.std.proofs.Common.{◌≡◌, ℕ, suc, ◌+◌, ◌-◌, ◌<◌, ◌≤◌, min, Bool, true, false, cond, ◌&&◌, eqb, ltb, List, [], ◌∷◌, map, length, get_or, drop, Some, None, Option, sym, refl, ap, ◌∙◌, ⊎_elim, arith, Bor}
+use Rattle.std.proofs.Common.{◌≡◌, ℕ, suc, ◌+◌, ◌<◌, ◌≤◌, min, Bool, true, false, cond, ◌&&◌, eqb, ltb, List, [], ◌∷◌, map, length, get_or, take, drop, Some, None, Option, sym, refl, ap, ◌∙◌, ⊎_elim, arith}
 use Rattle.std.proofs.lemmas.List.{drop_more, drop_all}
 use Rattle.std.proofs.lemmas.Bool.{cases_lt, and_parts, eqb-true, eq-eqb, lt-ltb, le-ltb}
 use Rattle.mysql.specs.declared.bind.Column.{Column}
 use Rattle.host.specs.declared.records.BindRecord.{BindRecord}
 use Rattle.host.specs.declared.records.Report.{Report}
-use Rattle.host.specs.Meanings.{Event, Meaning, no_column}
+use Rattle.host.specs.Meanings.{Meaning, no_column}
 use Rattle.host.specs.Calls.{in_order, all_end_by, carried, bind_error, allows, record_of, no_record, with_error, part_error, PartRefused, FailureCame}
-use Rattle.tape.specs.declared.event.Event.{Event as EventView}
+use Rattle.tape.specs.declared.event.Row.{Row as RowView}
+use Rattle.tape.specs.declared.recording.Events.{Events}
 use Rattle.tape.specs.declared.event.Event.TheVariants as view
-use Rattle.tape.specs.Decode.{take_event}
-use Rattle.tape.specs.Views.{events_in, event_of, off}
-use Rattle.tape.proofs.Whole.{events_first, events_none}
+use Rattle.tape.specs.Views.{columns_in, event_of}
+use Rattle.tape.specs.Recordings.{event_columns, events_left}
 use Rattle.tape_host.specs.declared.tapes.Tape.{Tape}
-use Rattle.std.specs.Option.{unwrap_or}
+use Rattle.std.specs.Option.{option_map, unwrap_or}
 use Rattle.tape_host.specs.Tapes.{own_code, event_shown, columns_of, current_of, bound_of, places_of, means}
-use Rattle.tape_host.specs.Wholes.{own_codes, Next}
-
--- the next event
-pub next_is : (cs : List Column) (n : ℕ) (bs : List ℕ) (r : Option (EventView × Bor (List ℕ))) → (n ≡ 0 → ⊥) → take_event cs bs ≡ off event_of r → Next cs n bs r
-next_is cs n bs None some h = events_none cs n bs h
-next_is cs n bs (Some p) some h = (omega arith, events_first cs n bs (event_of p.0) p.1.now some h)
+use Rattle.tape_host.specs.Wholes.{own_codes}
 
 -- the record of a column
 
@@ -65,10 +60,10 @@ module _ (t : Tape) where
         ∙ ap (λ x. cond x 0 2036) (carried_is 0 bs ∙ e)
 
   -- a column that is not bound
-  pub part_refused : (column : ℕ) (bs : Bor (List ℕ)) (report : Report) (part : List ℕ) → t.current ≡ Some bs → record_of (means t) column ≡ None
+  pub part_refused : (column : ℕ) (row : RowView) (report : Report) (part : List ℕ) → t.current ≡ Some row → record_of (means t) column ≡ None
       → (m' : Meaning) → m' ≡ with_error 2034 (means t) → PartRefused (means t) m' column report report part part
-  part_refused column bs report part cur none m' after =
-      let h : part_error (means t).current (record_of (means t) column) ≡ 2034 = ap (λ o. part_error (current_of cs o) (record_of (means t) column)) cur ∙ ap (part_error (current_of cs (Some bs))) none in
+  part_refused column row report part cur none m' after =
+      let h : part_error (means t).current (record_of (means t) column) ≡ 2034 = ap (λ o. part_error (current_of o) (record_of (means t) column)) cur ∙ ap (part_error (current_of (Some row))) none in
       record { error = λ e. omega arith; after = after ∙ ap (λ n. with_error n (means t)) (sym h); same_report = refl; same_part = refl }
 
   -- what allows a fetch
@@ -86,21 +81,49 @@ module _ (t : Tape) where
       says None e = cc
       says (Some bs) e = let p = and_parts (all_end_by arena bs) (eqb reports (length cs)) e in (refl, p.0, eqb-true reports (length cs) p.1)
 
-  module _ (reports : List Report) (arena : List ℕ) (ok : allows (means t) (length arena) (length reports) ≡ true) (rest : Bor (List ℕ)) where
-    abbrev left_over : List Event
-    left_over = map event_shown (events_in cs (t.left - 1) rest.now)
+  -- the columns and what is bound stay, as events are taken off
+  module _ (after : Events) (same : after.columns.now ≡ t.events.columns.now) where
+    pub bound_stays : option_map (take (length (event_columns after))) t.records ≡ bound_of t
+    bound_stays = ap (λ bs. option_map (take (length (columns_in bs))) t.records) same
 
+    pub places_stay : unwrap_or (option_map (take (length (event_columns after))) t.records) [] ≡ places_of t
+    places_stay = ap (λ o. unwrap_or o []) bound_stays
+
+    -- what a tape means after one more event
+    abbrev pub means_on : Option RowView → ℕ → Meaning
+    means_on row error = record {
+      columns = event_columns after;
+      carries = own_code (event_columns after);
+      coming = map event_shown (events_left after);
+      current = current_of row;
+      bound = option_map (take (length (event_columns after))) t.records;
+      error = error;
+    }
+
+    pub on_is : (row : Option RowView) (error : ℕ)
+        → means_on row error ≡ record { columns = cs; carries = own_code cs; coming = map event_shown (events_left after); current = current_of row; bound = bound_of t; error = error }
+    on_is row error =
+        ap (λ bs. record {
+          columns = columns_in bs;
+          carries = own_code (columns_in bs);
+          coming = map event_shown (events_left after);
+          current = current_of row;
+          bound = option_map (take (length (columns_in bs))) t.records;
+          error = error;
+        }) same
+
+  module _ (reports : List Report) (arena : List ℕ) (ok : allows (means t) (length arena) (length reports) ≡ true) (after : Events) (same : after.columns.now ≡ t.events.columns.now) where
     -- a failure is next
-    pub failure_came : (number : ℕ) → number < 65536 → events_in cs t.left t.events.now ≡ event_of (view.Failure number) ∷ events_in cs (t.left - 1) rest.now
-        → FailureCame (means t) (record { columns = cs; carries = own_code cs; coming = left_over; current = None; bound = (means t).bound; error = min number 65535 }) reports reports arena arena
+    pub failure_came : (number : ℕ) → number < 65536 → events_left t.events ≡ event_of (view.Failure number) ∷ events_left after
+        → FailureCame (means t) (means_on after same None (min number 65535)) reports reports arena arena
     failure_came number small h = record {
       allowed = ok;
       places = places_of t;
       bound = (allowed_says (length arena) (length reports) ok).bound;
       number = number;
-      rest = left_over;
+      rest = map event_shown (events_left after);
       next = ap (map event_shown) h;
-      after = let e : min number 65535 ≡ number = omega arith in ap (λ n. record { columns = cs; carries = own_code cs; coming = left_over; current = None; bound = (means t).bound; error = n }) e;
+      after = let e : min number 65535 ≡ number = omega arith in ap (means_on after same None) e ∙ on_is after same None number;
       as_many_reports = refl;
       untouched = record { same_length = refl; same_bytes = λ p out. refl };
     }

@@ -1,11 +1,11 @@
 -- Places and fields, gone through one after the other.
 -- Assumes nothing.
-use Rattle.std.proofs.Common.{◌≡◌, ℕ, ◌+◌, ◌<◌, ◌≤◌, min, false, ◌&&◌, leb, List, [], ◌∷◌, Option, Some, None, refl, length, get_or, drop, sym, ap, ◌∙◌, ⊎_elim, arith}
-use Rattle.std.proofs.lemmas.List.{drop_all, drop_more, drop-drop, get_or-drop}
-use Rattle.std.proofs.lemmas.Bool.{cases_lt, le-leb, lt-leb}
+use Rattle.std.proofs.Common.{◌≡◌, ℕ, zero, suc, ◌+◌, ◌<◌, ◌≤◌, min, Bool, true, false, ◌&&◌, leb, List, [], ◌∷◌, Option, Some, None, refl, length, get_or, drop, sym, ap, ◌∙◌, ⊎_elim, arith}
+use Rattle.std.proofs.lemmas.List.{drop_all, drop-drop, get_or-drop}
+use Rattle.std.proofs.lemmas.Bool.{cases_lt, le-leb}
 use Rattle.host.specs.declared.records.BindRecord.{BindRecord}
 use Rattle.std.proofs.lemmas.Option.{unwrap_or-slice_get}
-use Rattle.std.specs.List.{list_all, slice_get}
+use Rattle.std.specs.List.{list_all, slice_get, IsAllAdjacentAnswer}
 use Rattle.std.specs.Option.{option_map, unwrap_or}
 use Rattle.host.specs.Fields.{Field, null}
 use Rattle.tape.specs.declared.field.Field.{Field as View}
@@ -34,16 +34,41 @@ field_or_null o fs k e = same o ∙ ap (λ x. unwrap_or x null) e ∙ unwrap_or-
     same None = refl
     same (Some x) = refl
 
-module _ (rs : List BindRecord) (i : ℕ) (l : i < length rs) where
-  pub order_more : (from : ℕ) → from ≤ (get_or rs i no_record).start → in_order from (drop i rs) ≡ in_order (end (get_or rs i no_record)) (drop (i + 1) rs)
-  order_more from h =
-      ap (in_order from) (drop_more rs i no_record l)
-      ∙ ap (λ b. b && in_order (end (get_or rs i no_record)) (drop (i + 1) rs)) (le-leb from (get_or rs i no_record).start h)
+-- whether each place begins where the one before it ends or after
+abbrev pub begins_after : BindRecord → BindRecord → Bool
+begins_after b c = leb (end b) c.start
 
-  pub order_stops : (from : ℕ) → (get_or rs i no_record).start < from → in_order from (drop i rs) ≡ false
-  order_stops from h =
-      ap (in_order from) (drop_more rs i no_record l)
-      ∙ ap (λ b. b && in_order (end (get_or rs i no_record)) (drop (i + 1) rs)) (lt-leb from (get_or rs i no_record).start h)
+module _ (d : BindRecord) where
+  -- how the places at an index and after it are compared
+  abbrev at_and_after : List BindRecord → ℕ → Bool
+  at_and_after bs k = begins_after (get_or bs k d) (get_or bs (k + 1) d)
+
+  one_on : (b : BindRecord) (bs : List BindRecord) (k : ℕ) → at_and_after (b ∷ bs) (suc k) ≡ at_and_after bs k
+  one_on b bs k = let e : suc k + 1 ≡ suc (k + 1) = omega arith in ap (λ n. begins_after (get_or bs k d) (get_or (b ∷ bs) n d)) e
+
+  all_begin : (b : BindRecord) (bs : List BindRecord) → ((k : ℕ) → k + 1 < length (b ∷ bs) → true ≡ at_and_after (b ∷ bs) k) → in_order (end b) bs ≡ true
+  all_begin b [] h = refl
+  all_begin b (c ∷ cs) h = ap (λ x. x && in_order (end c) cs) (sym (h 0 (omega arith))) ∙ all_begin c cs (λ k l. h (suc k) (omega arith) ∙ one_on b (c ∷ cs) k)
+
+  one_early : (b : BindRecord) (bs : List BindRecord) (k : ℕ) → k + 1 < length (b ∷ bs) → false ≡ at_and_after (b ∷ bs) k → in_order (end b) bs ≡ false
+  one_early b [] k l h = absurd (omega arith)
+  one_early b (c ∷ cs) zero l h = ap (λ x. x && in_order (end c) cs) (sym h)
+  one_early b (c ∷ cs) (suc k) l h = ap (λ x. begins_after b c && x) (one_early c cs k (omega arith) (h ∙ one_on b (c ∷ cs) k)) ∙ and_false (begins_after b c)
+    where
+      and_false : (x : Bool) → (x && false) ≡ false
+      and_false true = refl
+      and_false false = refl
+
+-- no condition falls on the first place
+first_free : (b : BindRecord) (bs : List BindRecord) → in_order 0 (b ∷ bs) ≡ in_order (end b) bs
+first_free b bs = ap (λ x. x && in_order (end b) bs) (le-leb 0 b.start (omega arith))
+
+-- places of which each is compared with the one before it
+pub order_is : (bs : List BindRecord) (r : Bool) → IsAllAdjacentAnswer (λ x y b. b ≡ begins_after x y) bs r → r ≡ in_order 0 bs
+order_is [] true h = refl
+order_is [] false h = let l = h.1 in absurd (omega arith)
+order_is (b ∷ bs) true h = sym (first_free b bs ∙ all_begin no_record b bs (λ k l. h k no_record l))
+order_is (b ∷ bs) false h = sym (first_free b bs ∙ one_early no_record b bs h.0 h.1 (h.2 no_record))
 
 -- what is left after one more, and the one at the front of what is left
 module _ {X : Type 0} (xs left : List X) (k : ℕ) (e : left ≡ drop k xs) where

@@ -1,6 +1,5 @@
 -- What a tape means as a host: the columns of a recording, each carrying its own code only, alike at both signs, and its events.
 use Rattle.std.specs.Prelude.{◌≡◌, ℕ, min, Bool, ◌&&◌, List, [], map, length, get_or, take, Some, None, Ok, Err, Option, Result, ◌==◌, nat_lt, slice_index_or}
-use Rattle.std.specs.Borrow.{Bor}
 use Rattle.std.specs.Option.{option_map, unwrap_or}
 use Rattle.mysql.specs.declared.bind.Column.{Column}
 use Rattle.mysql.specs.declared.fault.Fault.{Fault}
@@ -10,7 +9,9 @@ use Rattle.host.specs.declared.records.BindRecord.{BindRecord}
 use Rattle.host.specs.Fields.{Field, null}
 use Rattle.host.specs.Meanings.{Row, Event, row, failure, Meaning, no_column}
 use Rattle.tape.specs.Format as recorded
-use Rattle.tape.specs.Views.{columns_in, fields_in, events_in}
+use Rattle.tape.specs.declared.event.Row.{Row as RowView}
+use Rattle.tape.specs.Views.{row_of}
+use Rattle.tape.specs.Recordings.{event_columns, events_left}
 use Rattle.tape_host.specs.declared.tapes.Tape.{Tape}
 
 -- a column carries its own code
@@ -26,11 +27,11 @@ event_shown (recorded.row fs) = row (shown fs)
 event_shown (recorded.failure n) = failure n
 
 abbrev pub columns_of : Tape → List Column
-columns_of t = columns_in t.columns.now
+columns_of t = event_columns t.events
 
-abbrev pub current_of : List Column → Option (Bor (List ℕ)) → Option Row
-current_of cs None = None
-current_of cs (Some bs) = Some (shown (fields_in cs bs.now))
+abbrev pub current_of : Option RowView → Option Row
+current_of None = None
+current_of (Some r) = Some (shown (row_of r))
 
 -- the bind list, at the front of what is bound, and the places of the columns: none where there is no bind list
 abbrev pub bound_of : Tape → Option (List BindRecord)
@@ -43,8 +44,8 @@ abbrev pub means : Tape → Meaning
 means t = record {
   columns = columns_of t;
   carries = own_code (columns_of t);
-  coming = map event_shown (events_in (columns_of t) t.left t.events.now);
-  current = current_of (columns_of t) t.current;
+  coming = map event_shown (events_left t.events);
+  current = current_of t.current;
   bound = bound_of t;
   error = min t.error 65535;
 }

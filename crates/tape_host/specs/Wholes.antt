@@ -1,13 +1,10 @@
--- Parts of a tape's calls: a row written whole, codes that are asked for, and the next event.
-use Rattle.std.specs.Prelude.{◌≡◌, ℕ, ◌-◌, ◌<◌, ◌≤◌, Bool, true, false, ◌&&◌, List, [], ◌∷◌, length, get_or, Some, None, Option, ◌==◌, slice_index_or}
-use Rattle.std.specs.Borrow.{Bor}
+-- Parts of a tape's calls: a row written whole, and codes that are asked for.
+use Rattle.std.specs.Prelude.{◌≡◌, ℕ, ◌<◌, Bool, true, false, ◌&&◌, List, [], ◌∷◌, length, get_or, ◌==◌, slice_index_or}
 use Rattle.mysql.specs.declared.bind.Column.{Column}
 use Rattle.host.specs.declared.records.BindRecord.{BindRecord}
 use Rattle.host.specs.declared.records.Report.{Report}
 use Rattle.host.specs.Fields.{Field, null}
 use Rattle.host.specs.Calls.{no_record, no_report, Reported, Stands, Untouched, any_truncates}
-use Rattle.tape.specs.declared.event.Event.{Event as EventView}
-use Rattle.tape.specs.Views.{events_in, event_of}
 use Rattle.tape_host.specs.Tapes.{shown}
 
 -- every field stands in its place and is reported, and no byte outside the places changes
@@ -22,8 +19,3 @@ abbrev pub own_codes : List Column → List BindRecord → Bool
 own_codes cs [] = true
 own_codes [] (b ∷ bs) = false
 own_codes (c ∷ cs) (b ∷ bs) = b.code == c.code && own_codes cs bs
-
--- the next of so many events, if there is one, and the bytes after it
-abbrev pub Next : List Column → ℕ → List ℕ → Option (EventView × Bor (List ℕ)) → Type 0
-Next cs n bs None = events_in cs n bs ≡ []
-Next cs n bs (Some p) = (1 ≤ n) × (events_in cs n bs ≡ event_of p.0 ∷ events_in cs (n - 1) p.1.now)

@@ -4,14 +4,13 @@ ghost use Rattle.host.specs.Calls.{with_error, number_of};
 ghost use Rattle.tape_host.specs.Tapes.{means};
 ghost use Rattle.tape_host.specs.Formeds.{formed};
 
-use crate::columns::{asks_own_codes, column_at, count_columns};
-use crate::events::next_event;
+use crate::columns::asks_own_codes;
 use crate::places::{all_end_by, are_in_order, copy_records};
 use crate::tapes::Tape;
 use crate::write::{field_at, write_field, write_row};
-use host::{BindRecord, ClientError, Fetched, Host, Report};
+use host::{BindRecord, ClientError, Fetched, Host, PAST_COLUMN, Report};
 use mysql::Column;
-use tape::{Event, Row};
+use tape::Event;
 
 impl Tape<'_> {
     // Refuses a call, for this reason, with what a refused call answers. (A tray has the same two lines: each sets a field of its own type.)
@@ -30,11 +29,11 @@ impl Host for Tape<'_> {
     ghost formed = { formed };
 
     fn column_count(&self) -> usize {
-        count_columns(self.columns)
+        self.events.columns().len()
     }
 
     fn column(&self, i: usize) -> Column {
-        column_at(self.columns, i)
+        self.events.columns().get(i).unwrap_or(PAST_COLUMN)
     }
 
     fn error_number(&self) -> u16 {
@@ -49,7 +48,7 @@ impl Host for Tape<'_> {
         if records.len() != self.column_count() || !are_in_order(records) {
             return self.refuse(ClientError::InvalidParameter);
         }
-        if !asks_own_codes(self.columns, records) {
+        if !asks_own_codes(self.events.columns(), records) {
             return self.refuse(ClientError::UnsupportedType);
         }
         self.records = Some(copy_records(records));
@@ -62,14 +61,11 @@ impl Host for Tape<'_> {
             self.refuse(ClientError::InvalidParameter);
             return Fetched::Failed;
         }
-        let Some((event, rest)) = next_event(self.columns, self.left, self.events) else {
-            self.left = 0;
+        let Some(event) = self.events.next() else {
             self.current = None;
             self.error = 0;
             return Fetched::NoData;
         };
-        self.events = rest;
-        self.left -= 1;
         match event {
             Event::Failure(number) => {
                 self.current = None;
@@ -77,7 +73,7 @@ impl Host for Tape<'_> {
                 Fetched::Failed
             }
             Event::Row(row) => {
-                self.current = Some(row.bytes);
+                self.current = Some(row);
                 self.error = 0;
                 if write_row(row, self.places(), arena, reports) {
                     Fetched::Truncated
@@ -95,24 +91,20 @@ impl Host for Tape<'_> {
         part: &mut [u8],
         report: &mut Report,
     ) -> bool {
-        let Some(bytes) = self.current else {
+        let Some(row) = self.current else {
             return self.refuse(ClientError::NoData);
         };
         if column >= self.places().len() {
             return self.refuse(ClientError::InvalidParameter);
         }
         self.error = 0;
-        let row = Row {
-            columns: self.columns,
-            bytes,
-        };
         let field = field_at(row, column);
         *report = write_field(field, offset, part);
         true
     }
 
     fn free(&mut self) {
-        self.left = 0;
+        self.events.stop();
         self.current = None;
         self.records = None;
         self.error = 0;

@@ -2,7 +2,6 @@
 #![tactic(auto)]
 
 mod columns;
-mod events;
 mod hosted;
 mod open;
 mod places;

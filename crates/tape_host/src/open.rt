@@ -2,7 +2,6 @@
 ghost use Rattle.std.specs.Prelude.{◌≡◌, true, length, is_some};
 ghost use Rattle.tape_host.specs.Tapes.{columns_of, bound_of, places_of, Opened};
 
-use crate::columns::count_columns;
 use crate::tapes::Tape;
 use host::BindRecord;
 use mysql::Fault;
@@ -14,11 +13,9 @@ impl<'a> Tape<'a> {
         ensures { Opened bytes.now result }
     {
         let recording = Recording::new(bytes)?;
-        let (columns, events, left) = recording.parts();
+        let events = recording.events();
         Ok(Tape {
-            columns,
             events,
-            left,
             current: None,
             records: None,
             error: 0,
@@ -31,7 +28,7 @@ impl<'a> Tape<'a> {
         ensures counted { is_some (bound_of self.now) ≡ true → length result.now ≡ length (columns_of self.now) }
     {
         match &self.records {
-            Some(records) => &records[..count_columns(self.columns)],
+            Some(records) => &records[..self.events.columns().len()],
             None => &[],
         }
     }

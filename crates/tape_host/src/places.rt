@@ -11,18 +11,11 @@ fn end_of(place: BindRecord) -> u128
     place.start as u128 + place.capacity as u128
 }
 
-// Whether no place begins before the one before it ends. A loop, since the first has none before it to be compared with.
+// Whether no place begins before the one before it ends.
 pub(crate) fn are_in_order(records: &[BindRecord]) -> bool
     ensures { result ≡ in_order 0 records.now }
 {
-    let mut from = 0u128;
-    for record in records {
-        if (record.start as u128) < from {
-            return false;
-        }
-        from = end_of(*record);
-    }
-    true
+    records.is_sorted_by(|place, next| end_of(*place) <= next.start as u128)
 }
 
 // Whether every place ends by the end of an arena of this length.

@@ -1,18 +1,14 @@
-use Rattle.std.proofs.Common.{sym, ◌∙◌, arith, rules}
-use Rattle.tape.specs.Views.{columns_in}
-use Rattle.tape_host.proofs.Columned.{codes_stop, codes_differ, codes_more, codes_end}
+use Rattle.std.proofs.Common.{length, ap, ◌∙◌, rules, tests}
+use Rattle.std.proofs.lemmas.Iterator.{YieldsList-from_slice, YieldsList-from_zip}
+use Rattle.std.proofs.lemmas.Iterator.Consumers.{YieldsList-at, YieldsList-from_shown}
+use Rattle.std.proofs.lemmas.Iterator.Search.{all_from_yields_List}
+use Rattle.tape.specs.Recordings.{Gives, columns_left}
+use Rattle.tape_host.proofs.Columned.{own_pair, codes_all}
 use Rattle.tape_host.proofs.columns.asks_own_codes.Goals as goal
 
-pub returns-in_default : goal.returns-in_default
-returns-in_default c = sym (c.loop-record.invariant ∙ codes_stop c.loop-record.rest.now c.args.records.now c.loop-record.record-index (omega arith) c.in_default.ensures)
-
-pub returns-then-column-record : goal.returns-then-column-record
-returns-then-column-record c =
-    sym (c.loop-record.invariant ∙ codes_differ c.loop-record.rest.now c.args.records.now c.loop-record.record-index (omega arith) c.in-Some.column c.in-Some.after.now c.in-Some.ensures (search rules))
-
-pub loop-record-preserved : goal.loop-record-preserved
-loop-record-preserved c =
-    c.loop-record.invariant ∙ codes_more c.loop-record.rest.now c.args.records.now c.loop-record.record-index (omega arith) c.in-Some.column c.in-Some.after.now c.in-Some.ensures (search rules)
-
 pub returns : goal.returns
-returns c = sym (c.loop-record.invariant ∙ codes_end (columns_in c.loop-record.rest.now) c.args.records.now c.loop-record.record-index (omega arith))
+returns c =
+    let columns = YieldsList-from_shown (Gives columns_left (λ c. c)) (λ c. c) columns_left (λ s t h. ap length h.0) (λ s x t h. h) c.args.columns in
+    let pairs = YieldsList-from_zip {s = c.zip.result} (YieldsList-at c.zip.ensures.first columns) (YieldsList-from_slice c.args.records.now cc) in
+    all_from_yields_List own_pair c.all.new.self _ c.all.result c.all.ensures.ran pairs (λ x b q k. search (rules, tests))
+    ∙ codes_all (columns_left c.args.columns) c.args.records.now c.requires

@@ -1,8 +1,8 @@
 use Rattle.std.proofs.Common.{Bool, length, get_or, sym, refl, ap, subst, arith, rules}
 use Rattle.host.specs.Fields.{Field}
 use Rattle.host.specs.Calls.{no_record, from_offset, PartReported, Stands, Parts}
-use Rattle.tape.specs.Views.{fields_in}
-use Rattle.tape_host.specs.Tapes.{shown, columns_of, bound_of, places_of, current_of, means}
+use Rattle.tape.specs.Views.{row_of}
+use Rattle.tape_host.specs.Tapes.{shown, bound_of, places_of, current_of, means}
 use Rattle.tape_host.proofs.Called.{record_some, record_past, part_refused}
 use Rattle.tape_host.proofs.hosted.TapeHost.fetch_column.Goals as goal
 
@@ -13,15 +13,15 @@ returns-then-column-places c =
     let r = c.refuse-then-column-places in
     let none = record_past (bound_of t) column (omega (arith, ap length c.places.ensures.are)) in
     subst (λ (b : Bool). Parts b (means t) (means r.new.self) column c.args.offset c.args.report.now c.args.report.now c.args.part.now c.args.part.now) (sym r.ensures.refused)
-    (part_refused t column c.in-Some.bytes c.args.report.now c.args.part.now c.in-Some.is none (means r.new.self) r.ensures.after)
+    (part_refused t column c.in-Some.row c.args.report.now c.args.part.now c.in-Some.is none (means r.new.self) r.ensures.after)
 
 pub returns : goal.returns
 returns c =
     let t = c.args.self.now in
     let column = c.args.column in
     record {
-      fields = shown (fields_in (columns_of t) c.in-Some.bytes.now);
-      current = ap (current_of (columns_of t)) c.in-Some.is;
+      fields = shown (row_of c.in-Some.row);
+      current = ap current_of c.in-Some.is;
       at = get_or (places_of t) column no_record;
       bound = record_some (bound_of t) column (omega (arith, ap length c.places.ensures.are));
       after = refl;

@@ -4,5 +4,5 @@ use Rattle.tape_host.proofs.tapes.Tape.new.Goals as goal
 
 pub returns : goal.returns
 returns c =
-    let r = c.parts-left.result in
-    new_holds c.args.bytes.now r.0.now r.1.now r.2 (contents c.in_ok-recording.recording) c.parts-left.ensures c.in_ok-recording.ensures
+    let e = c.events-events.ensures in
+    new_holds c.args.bytes.now c.events-events.result (contents c.in_ok-recording.recording) e.columned e.all c.in_ok-recording.ensures
