@@ -1,15 +1,14 @@
 -- A call of a session is a step of the ideal session that it stands for.
-use Rattle.std.proofs.Common.{◌≡◌, ℕ, Bool, true, false, cond, eqb, nat_lt, List, [], ◌∷◌, length, is_some as option_is_some, Some, None, Ok, Err, Option, Result, MatchResult, sym, refl, ap, ◌∙◌}
+use Rattle.std.proofs.Common.{◌≡◌, ℕ, Bool, true, false, cond, eqb, List, [], ◌∷◌, length, is_some as option_is_some, Some, None, Ok, Err, Option, Result, MatchResult, sym, refl, ap, ◌∙◌}
 use Rattle.std.proofs.lemmas.Bool.{eq-eqb}
 use Rattle.mysql.specs.declared.backend.MysqlType.{MysqlType}
 use Rattle.mysql.specs.declared.bind.Column.{Column}
 use Rattle.mysql.specs.declared.fault.Fault.{Fault}
-use Rattle.mysql.specs.declared.fault.Refusal.TheVariants.{Unopened, NoSuchColumn, NoCurrentRow}
+use Rattle.mysql.specs.declared.fault.Refusal.TheVariants.{Unopened}
 use Rattle.mysql.specs.Faults.{refused}
 use Rattle.host.specs.Meanings.{Row, Event, Meaning}
 use Rattle.host.specs.Meanings as event
 use Rattle.layout.specs.declared.table.ColumnTable.{ColumnTable}
-use Rattle.layout.specs.Tables.{count_of, col}
 use Rattle.rows.specs.declared.answers.Fetch.{Fetch}
 use Rattle.rows.specs.declared.answers.Fetch.TheVariants as fetch_answer
 use Rattle.session.specs.declared.answers.Slip.{Slip}
@@ -209,7 +208,7 @@ module _ {H X : Type 0} (m : Meaning) (s : Session H) (a : List ℕ) (k : ℕ) (
   read_by false o =
       exact
       ∙ ap (dues.read_as reads k)
-      (unopened s (length a) (cond (nat_lt k (count_of (table_of s))) (cond (is_shown s) (record_shown k (col (table_of s) k) a) (Err (refused NoCurrentRow))) (Err (refused NoSuchColumn))) o)
+      (unopened s (length a) (session.looked (is_shown s) (table_of s) a k) o)
 
   -- from what a typed reading ensures
   pub read_is : r ≡ dues.read_as reads k (read_due (ideal_of m s a).bound (ideal_of m s a).shown k)

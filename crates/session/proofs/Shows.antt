@@ -163,6 +163,6 @@ module _ {H : Type 0} (m : Meaning) (s : Session H) (a : List ℕ) (k : ℕ) (so
 
   pub reads_row : reading s a k ≡ read (pairs_of t) (shown_row m s) k
   reads_row =
-      past s a p (cond (ltb k (count_of t)) (cond (is_shown s) (record_shown k (col t k) a) (Err (refused NoCurrentRow))) (Err (refused NoSuchColumn)))
+      past s a p (looked (is_shown s) t a k)
       ∙ by_column (ltb k (count_of t)) refl
       ∙ ap (λ (n : ℕ). cond (ltb k n) (row_shown (pairs_of t) (shown_row m s) k) (Err (refused NoSuchColumn))) (sym (pairs_length t))

@@ -14,7 +14,7 @@ pub(crate) struct Opened {
     ghost fit: { shown ≡ true → (k : ℕ) → k < count_of table → Fits (col table k) },
 }
 
-// A session owns one host. None where no opening was granted.
+// A session: the host, which it owns, and what a granted opening left; nothing before one was granted.
 pub struct Session<H> {
     pub(crate) host: H,
     pub(crate) opened: Option<Opened>,
