@@ -3,7 +3,7 @@ use Rattle.std.specs.Prelude.{◌≡◌, ℕ, true, cond, List, length, Some, No
 use Rattle.host.specs.Meanings.{Meaning}
 use Rattle.session.specs.declared.state.Session.{Session}
 use Rattle.rows.specs.Standing.{pairs_of}
-use Rattle.session.specs.Sessions.{is_open, shown_row, Sound, Holds}
+use Rattle.session.specs.Sessions.{table_of, is_open, shown_row, Sound, Holds}
 use Rattle.play.specs.declared.calls.Answer.{Answer}
 use Rattle.play.specs.declared.calls.PlayError.{PlayError}
 use Rattle.play.specs.Histories.{Asked}
@@ -18,13 +18,13 @@ module _ {H : Type 0} where
     carries = m.carries;
     arena = length a;
     coming = m.coming;
-    bound = cond (is_open s) (Some (pairs_of s.table)) None;
+    bound = cond (is_open s) (Some (pairs_of (table_of s))) None;
     shown = shown_row m s;
   }
 
   -- a session that is opened was opened over an arena of this length, and the row that it shows stands whole in this arena
   pub record Ready (m : Meaning) (s : Session H) (a : List ℕ) : Type 0 where
-    pub room : is_open s ≡ true → s.table.room ≡ length a
+    pub room : is_open s ≡ true → (table_of s).room ≡ length a
     pub sound : Sound m s
     pub holds : Holds m s a
 

@@ -17,10 +17,11 @@ use Rattle.layout.proofs.Binding.{binds_length, binds_at, binds_end_by, in_place
 use Rattle.rows.specs.declared.answers.Fetch.{Fetch}
 use Rattle.rows.proofs.Pairs.{not_both}
 use Rattle.session.specs.declared.state.Session.{Session}
+use Rattle.session.specs.declared.state.Opened.{Opened}
 use Rattle.rows.specs.Bounds.{all_carried, row_need, first_loss}
 use Rattle.rows.specs.Dues.{row_fetched, fetched}
 use Rattle.rows.specs.Standing.{pairs_of}
-use Rattle.session.specs.Sessions.{is_open, is_shown, Sound, passes, fetch_answer, AfterFetch, RowRefused, RowMet}
+use Rattle.session.specs.Sessions.{table_of, session_of, is_open, is_shown, Sound, passes, fetch_answer, AfterFetch, RowRefused, RowMet}
 use Rattle.rows.specs.Settling.{RowGot, row_answer, Shows, Refuses}
 use Rattle.session.specs.Settled.{SettledIn}
 use Rattle.session.proofs.Shows.{past, is_opened, is_as_long}
@@ -45,7 +46,7 @@ row_current m r h e = subst (CurrentFits m) e h
 
 module _ {H : Type 0} (m : Meaning) (s : Session H) (sound : Sound m s) (a : List ℕ) (p : passes s a ≡ true) where
   abbrev t : ColumnTable
-  t = s.table
+  t = table_of s
 
   opened : is_open s ≡ true
   opened = is_opened s a p
@@ -72,7 +73,7 @@ module _ {H : Type 0} (m : Meaning) (s : Session H) (sound : Sound m s) (a : Lis
     failure_answer f error e q =
         answers (failure w.number ∷ w.rest) (Err f) (ap (λ (n : ℕ). Err (host_failed n)) (sym (q ∙ ap (λ (x : Meaning). x.error) w.after)) ∙ ap Err (sym e)) w.next
 
-    pub failure_after : (s' : Session H) (x : Result Fetch Fault) → is_open s' ≡ true → is_shown s' ≡ false → s'.table ≡ t → AfterFetch m.coming x m m' s s' a a'
+    pub failure_after : (s' : Session H) (x : Result Fetch Fault) → is_open s' ≡ true → is_shown s' ≡ false → (table_of s') ≡ t → AfterFetch m.coming x m m' s s' a a'
     failure_after s' x o n e =
         subst (λ (es : List Event). AfterFetch es x m m' s s' a a') (sym w.next)
         (record {
@@ -113,32 +114,35 @@ module _ {H : Type 0} (m : Meaning) (s : Session H) (sound : Sound m s) (a : Lis
     due_is : (x : Result Fetch Fault) → row_answer w.fields t ≡ x → fetched (pairs_of t) (length a) (row w.fields ∷ w.rest) ≡ x
     due_is x e = ap (λ (n : ℕ). row_fetched (first_loss w.fields 0 (pairs_of t)) (ltb n (row_need w.fields 0 (pairs_of t)))) long ∙ e
 
-    module _ (s1 s' : Session H) (m'' : Meaning) (a'' : List ℕ) (e1 : s1.table ≡ t) (o1 : is_open s1 ≡ true) where
-      pub row_answered : (x : Result Fetch Fault) → SettledIn m' w.fields s1 a' x m'' s' a'' → x ≡ fetch_answer s a m.coming
+    module _ (u : ColumnTable) (o : Opened) (h : H) (m'' : Meaning) (a'' : List ℕ) (e1 : u ≡ t) where
+      abbrev s' : Session H
+      s' = session_of h o
+
+      pub row_answered : (x : Result Fetch Fault) → SettledIn m' w.fields u a' x m'' o a'' → x ≡ fetch_answer s a m.coming
       row_answered (Ok x) z = answers (row w.fields ∷ w.rest) (Ok x) (due_is (Ok x) (ap (row_answer w.fields) (sym e1) ∙ z.1.settled.due ∙ ap Ok (sym z.0))) w.next
       row_answered (Err f) z = answers (row w.fields ∷ w.rest) (Err f) (due_is (Err f) (ap (row_answer w.fields) (sym e1) ∙ z.settled.due)) w.next
 
       outside_first : Beyond (end t) a a'
       outside_first = past_end t w.places a a' places_are w.untouched
 
-      met : (x : Fetch) → SettledIn m' w.fields s1 a' (Ok x) m'' s' a'' → RowMet w.fields w.rest m m'' s s' a a''
+      met : (x : Fetch) → SettledIn m' w.fields u a' (Ok x) m'' o a'' → RowMet w.fields w.rest m m'' s s' a a''
       met x z =
-          let y = subst (λ (u : ColumnTable). Shows m' w.fields u a' m'' s'.table a'') e1 z.1.settled in
+          let y = subst (λ (v : ColumnTable). Shows m' w.fields v a' m'' (table_of s') a'') e1 z.1.settled in
           record {
-            host = y.host ∙ ap (λ (q : Meaning). record { columns = q.columns; carries = q.carries; coming = q.coming; current = q.current; bound = Some (binds s'.table); error = 0 }) w.after;
-            opened = z.1.opened ∙ o1;
+            host = y.host ∙ ap (λ (q : Meaning). record { columns = q.columns; carries = q.carries; coming = q.coming; current = q.current; bound = Some (binds (table_of s')); error = 0 }) w.after;
+            opened = refl;
             shown = z.1.shown;
             table = y.table;
             whole = y.whole;
             outside = λ p l l'. y.outside p l l' ∙ outside_first p l;
           }
 
-      not_met : (f : Fault) → SettledIn m' w.fields s1 a' (Err f) m'' s' a'' → RowRefused w.fields w.rest m m'' s s' a a''
+      not_met : (f : Fault) → SettledIn m' w.fields u a' (Err f) m'' o a'' → RowRefused w.fields w.rest m m'' s s' a a''
       not_met f z =
-          let y = subst (λ (u : ColumnTable). Refuses m' w.fields u a' f m'' s'.table a'') e1 z.settled in
+          let y = subst (λ (v : ColumnTable). Refuses m' w.fields v a' f m'' (table_of s') a'') e1 z.settled in
           record {
             host = y.host ∙ w.after;
-            opened = z.opened ∙ o1;
+            opened = refl;
             no_row = z.no_row;
             places = y.places;
             pairs = y.pairs;
@@ -146,6 +150,6 @@ module _ {H : Type 0} (m : Meaning) (s : Session H) (sound : Sound m s) (a : Lis
             outside = λ p l. ap (λ (b : List ℕ). get_or b p 0) y.same_arena ∙ outside_first p l;
           }
 
-      pub row_after : (x : Result Fetch Fault) → SettledIn m' w.fields s1 a' x m'' s' a'' → AfterFetch m.coming x m m'' s s' a a''
+      pub row_after : (x : Result Fetch Fault) → SettledIn m' w.fields u a' x m'' o a'' → AfterFetch m.coming x m m'' s s' a a''
       row_after (Ok x) z = subst (λ (es : List Event). AfterFetch es (Ok x) m m'' s s' a a'') (sym w.next) (met x z)
       row_after (Err f) z = subst (λ (es : List Event). AfterFetch es (Err f) m m'' s s' a a'') (sym w.next) (not_met f z)

@@ -7,7 +7,7 @@ use Rattle.rows.specs.declared.answers.Fetch.{Fetch}
 use Rattle.session.specs.declared.state.Session.{Session}
 use Rattle.rows.specs.Bounds.{field_at}
 use Rattle.rows.specs.Standing.{pair_of, pairs_of, StandsWhole}
-use Rattle.session.specs.Sessions.{is_open, is_shown, Sound, Holds, passes, host_after, AfterFetch}
+use Rattle.session.specs.Sessions.{table_of, is_open, is_shown, Sound, Holds, passes, host_after, AfterFetch}
 use Rattle.rows.proofs.Pairs.{not_both}
 use Rattle.session.proofs.Shows.{is_opened}
 
@@ -16,17 +16,16 @@ module _ {H : Type 0} (m m' : Meaning) (s s' : Session H) (sound : Sound m s) (a
   opened = is_opened s a p
 
   -- where the columns stay as they are bound, and the host is bound to the places
-  kept_sound : m'.columns ≡ m.columns → m'.carries ≡ m.carries → m'.bound ≡ Some (binds s'.table) → count_of s'.table ≡ count_of s.table → pairs_of s'.table ≡ pairs_of s.table
+  kept_sound : m'.columns ≡ m.columns → m'.carries ≡ m.carries → m'.bound ≡ Some (binds (table_of s')) → count_of (table_of s') ≡ count_of (table_of s) → pairs_of (table_of s') ≡ pairs_of (table_of s)
       → is_open s' ≡ true → (is_shown s' ≡ true → m'.current ≡ None → ⊥) → Sound m' s'
   kept_sound cs rs b n ps o some = record {
     places = λ _. b;
     as_many = λ _. n ∙ sound.as_many opened ∙ sym (ap length cs);
     carried = λ _. rw (rs, ps) (sound.carried opened);
-    opened_first = λ _. o;
     a_row = some;
   }
 
-  same_table : s'.table ≡ s.table → (rest : List Event) (error : ℕ) → m' ≡ host_after m rest None error → is_open s' ≡ true → is_shown s' ≡ false → Sound m' s'
+  same_table : table_of s' ≡ table_of s → (rest : List Event) (error : ℕ) → m' ≡ host_after m rest None error → is_open s' ≡ true → is_shown s' ≡ false → Sound m' s'
   same_table e rest error h o no_row =
       kept_sound (rw h refl) (rw h refl)
       (rw (h, e) (sound.places opened)) (rw e refl) (rw e refl) o (λ p. not_both (is_shown s') p no_row)
@@ -56,5 +55,5 @@ after_holds m m' s s' a a' (row r ∷ rest) (Ok x) w = record {
       let is : Some r ≡ Some q = sym (ap (λ (b : Bool). cond b m'.current None) w.shown ∙ now) ∙ e in
       let same : r ≡ q = cc in
       let n = w.table.count in
-      subst (λ (y : Row). StandsWhole (field_at y k (pair_of (col s'.table k))) (col s'.table k) a') same (w.whole k (omega arith));
+      subst (λ (y : Row). StandsWhole (field_at y k (pair_of (col (table_of s') k))) (col (table_of s') k) a') same (w.whole k (omega arith));
 }

@@ -16,7 +16,7 @@ use Rattle.rows.specs.Bounds.{bound, all_carried, field_at}
 use Rattle.session.proofs.Binds.{bound_long}
 use Rattle.rows.specs.Dues.{most_bytes, placed, opening}
 use Rattle.rows.specs.Standing.{pair_of, StandsWhole}
-use Rattle.session.specs.Sessions.{is_shown, Sound, Holds, shown_row, Opened, NotOpened, AfterOpening}
+use Rattle.session.specs.Sessions.{table_of, is_shown, Sound, Holds, shown_row, Opened, NotOpened, AfterOpening}
 
 module _ {H : Type 0} (m m' : Meaning) (s s' : Session H) (a a' : List ℕ) where
   refused_sound : (f : Fault) → NotOpened f m m' s s' a a' → Sound m s → Sound m' s'
@@ -24,7 +24,6 @@ module _ {H : Type 0} (m m' : Meaning) (s s' : Session H) (a a' : List ℕ) wher
     places = λ o. rw (n.host, n.table) (h.places (sym n.opened ∙ o));
     as_many = λ o. rw (n.host, n.table) (h.as_many (sym n.opened ∙ o));
     carried = λ o. rw (n.host, n.table) (h.carried (sym n.opened ∙ o));
-    opened_first = λ o. n.opened ∙ h.opened_first (sym n.shown ∙ o);
     a_row = λ o e. h.a_row (sym n.shown ∙ o) (sym (ap (λ (x : Meaning). x.current) n.host) ∙ e);
   }
 
@@ -32,7 +31,7 @@ module _ {H : Type 0} (m m' : Meaning) (s s' : Session H) (a a' : List ℕ) wher
   refused_holds f n h = record {
     whole = λ r e k l.
         let same : shown_row m' s' ≡ shown_row m s = rw (n.shown, n.host) refl in
-        subst (λ (b : List ℕ). StandsWhole (field_at r k (pair_of (col s'.table k))) (col s'.table k) b) (sym n.same_arena)
+        subst (λ (b : List ℕ). StandsWhole (field_at r k (pair_of (col (table_of s') k))) (col (table_of s') k) b) (sym n.same_arena)
         (subst (λ (t : ColumnTable). k < count_of t → StandsWhole (field_at r k (pair_of (col t k))) (col t k) a) (sym n.table) (h.whole r (sym same ∙ e) k) l);
   }
 
@@ -41,7 +40,6 @@ module _ {H : Type 0} (m m' : Meaning) (s s' : Session H) (a a' : List ℕ) wher
     places = λ _. rw o.host refl;
     as_many = λ _. rw o.host (o.table.as_many ∙ l);
     carried = λ _. rw (o.host, o.bound_with) c;
-    opened_first = λ _. o.opened;
     a_row = λ p e. not_both (is_shown s') p o.no_row;
   }
 

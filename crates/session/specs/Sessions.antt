@@ -1,5 +1,5 @@
 -- A session and its host: how they agree, and what each call leaves.
-use Rattle.std.specs.Prelude.{◌≡◌, ℕ, ◌<◌, ◌≤◌, Bool, true, false, cond, ◌&&◌, List, [], ◌∷◌, length, take, drop, Some, None, Ok, Err, Option, Result, ◌==◌, ◌≢◌, nat_lt, slice_index}
+use Rattle.std.specs.Prelude.{◌≡◌, ℕ, ◌<◌, ◌≤◌, Bool, true, false, cond, ◌&&◌, List, [], ◌∷◌, length, take, drop, Some, None, Ok, Err, Option, Result, ◌==◌, ◌≢◌, nat_lt, is_some, slice_index}
 use Rattle.mysql.specs.declared.backend.MysqlType.{MysqlType}
 use Rattle.mysql.specs.declared.bind.Column.{Column}
 use Rattle.mysql.specs.declared.fault.Fault.{Fault}
@@ -18,7 +18,8 @@ use Rattle.rows.specs.declared.answers.Fetch.{Fetch}
 use Rattle.rows.specs.Standing.{pair_of, pairs_of, report_of, StandsWhole, Regrown}
 use Rattle.session.specs.declared.answers.Slip.{Slip}
 use Rattle.session.specs.declared.state.Session.{Session}
-use Rattle.session.specs.Stages.{opened, shown}
+use Rattle.session.specs.declared.state.Opened as state
+use Rattle.session.specs.Stages.{shown, table}
 use Rattle.session.specs.declared.state.Value.{Value}
 use Rattle.rows.specs.Bounds.{all_carried, field_at}
 use Rattle.rows.specs.Dues.{Shown, typed, placed, opening, fetched, read}
@@ -26,18 +27,25 @@ use Rattle.rows.specs.Dues.{Shown, typed, placed, opening, fetched, read}
 module _ {H : Type 0} where
   -- an opening was granted; and the last fetch showed a row
   abbrev pub is_open : Session H → Bool
-  is_open s = opened s.stage
+  is_open s = is_some s.opened
 
   abbrev pub is_shown : Session H → Bool
-  is_shown s = shown s.stage
+  is_shown s = shown s.opened
+
+  -- the columns as they are bound: an empty table where no opening was granted
+  abbrev pub table_of : Session H → ColumnTable
+  table_of s = table s.opened
+
+  -- an opened session, of its two parts
+  abbrev pub session_of : H → state.Opened → Session H
+  session_of h o = record { host = h; opened = Some o }
 
   -- While a session is opened, its host is bound to exactly the table's places, at codes that it carries. Where a row is shown, it is
   -- the host's current row.
   pub record Sound (m : Meaning) (s : Session H) : Type 0 where
-    pub places : is_open s ≡ true → m.bound ≡ Some (binds s.table)
-    pub as_many : is_open s ≡ true → count_of s.table ≡ length m.columns
-    pub carried : is_open s ≡ true → all_carried m.carries 0 (pairs_of s.table) ≡ true
-    pub opened_first : is_shown s ≡ true → is_open s ≡ true
+    pub places : is_open s ≡ true → m.bound ≡ Some (binds (table_of s))
+    pub as_many : is_open s ≡ true → count_of (table_of s) ≡ length m.columns
+    pub carried : is_open s ≡ true → all_carried m.carries 0 (pairs_of (table_of s)) ≡ true
     pub a_row : is_shown s ≡ true → m.current ≢ None
 
   -- the row that a session shows
@@ -46,7 +54,7 @@ module _ {H : Type 0} where
 
   -- the row that is shown stands whole in the arena
   pub record Holds (m : Meaning) (s : Session H) (a : List ℕ) : Type 0 where
-    pub whole : (r : Row) → shown_row m s ≡ Some r → (k : ℕ) → k < count_of s.table → StandsWhole (field_at r k (pair_of (col s.table k))) (col s.table k) a
+    pub whole : (r : Row) → shown_row m s ≡ Some r → (k : ℕ) → k < count_of (table_of s) → StandsWhole (field_at r k (pair_of (col (table_of s) k))) (col (table_of s) k) a
 
 -- openings
 
@@ -75,19 +83,19 @@ PlacedAs (Err f) m m' pairs a a' = NotPlaced m m' pairs f a a'
 module _ {H : Type 0} where
   -- granted: the table is that of an opening, the host is bound to its places, these are zeroed, and no other byte changes
   pub record Opened (m m' : Meaning) (s s' : Session H) (pairs : List Column) (a a' : List ℕ) : Type 0 where
-    pub table : OpeningTable pairs (length a) s'.table
-    pub bound_with : pairs_of s'.table ≡ pairs
-    pub host : m' ≡ record { columns = m.columns; carries = m.carries; coming = m.coming; current = m.current; bound = Some (binds s'.table); error = 0 }
+    pub table : OpeningTable pairs (length a) (table_of s')
+    pub bound_with : pairs_of (table_of s') ≡ pairs
+    pub host : m' ≡ record { columns = m.columns; carries = m.carries; coming = m.coming; current = m.current; bound = Some (binds (table_of s')); error = 0 }
     pub opened : is_open s' ≡ true
     pub no_row : is_shown s' ≡ false
-    pub zeroed : (p : ℕ) → p < end s'.table → slice_index a' p ≡ 0
-    pub others : Beyond (end s'.table) a a'
+    pub zeroed : (p : ℕ) → p < end (table_of s') → slice_index a' p ≡ 0
+    pub others : Beyond (end (table_of s')) a a'
 
   -- refused: the arena and the session are as they were; where the host refused the bind, its error number is all that changes
   pub record NotOpened (f : Fault) (m m' : Meaning) (s s' : Session H) (a a' : List ℕ) : Type 0 where
     pub opened : is_open s' ≡ is_open s
     pub shown : is_shown s' ≡ is_shown s
-    pub table : s'.table ≡ s.table
+    pub table : table_of s' ≡ table_of s
     pub host : m' ≡ with_error (error_after f m.error) m
     pub same_arena : a' ≡ a
 
@@ -102,14 +110,14 @@ module _ {H : Type 0} where
 module _ {H : Type 0} where
   -- the two checks of a fetch: 1 where the session is not opened, 3 where the arena has another length than at the opening
   abbrev pub passes : Session H → List ℕ → Bool
-  passes s a = is_open s && length a == s.table.room
+  passes s a = is_open s && length a == (table_of s).room
 
   -- x where the two checks pass
   abbrev pub past_checks : {X : Type 0} → Session H → (arena : ℕ) → Result X Fault → Result X Fault
-  past_checks s arena x = cond (is_open s) (cond (arena == s.table.room) x (Err (refused ArenaLength))) (Err (refused Unopened))
+  past_checks s arena x = cond (is_open s) (cond (arena == (table_of s).room) x (Err (refused ArenaLength))) (Err (refused Unopened))
 
   abbrev pub fetch_answer : Session H → List ℕ → List Event → Result Fetch Fault
-  fetch_answer s a coming = past_checks s (length a) (fetched (pairs_of s.table) (length a) coming)
+  fetch_answer s a coming = past_checks s (length a) (fetched (pairs_of (table_of s)) (length a) coming)
 
 -- the host's meaning after an event was taken off
 abbrev pub host_after : Meaning → List Event → Option Row → (error : ℕ) → Meaning
@@ -121,7 +129,7 @@ module _ {H : Type 0} where
     pub host : m' ≡ host_after m [] None 0
     pub opened : is_open s' ≡ true
     pub no_row : is_shown s' ≡ false
-    pub table : s'.table ≡ s.table
+    pub table : table_of s' ≡ table_of s
     pub same_arena : a' ≡ a
 
   -- a failure was next. Free: the bytes of the places.
@@ -129,28 +137,28 @@ module _ {H : Type 0} where
     pub host : m' ≡ host_after m rest None n
     pub opened : is_open s' ≡ true
     pub no_row : is_shown s' ≡ false
-    pub table : s'.table ≡ s.table
-    pub outside : Beyond (end s.table) a a'
+    pub table : table_of s' ≡ table_of s
+    pub outside : Beyond (end (table_of s)) a a'
 
   -- a row was next, and is refused: the places and the bind list stay. Free: the bytes of the places, and the length of a null.
   pub record RowRefused (r : Row) (rest : List Event) (m m' : Meaning) (s s' : Session H) (a a' : List ℕ) : Type 0 where
     pub host : m' ≡ host_after m rest (Some r) 0
     pub opened : is_open s' ≡ true
     pub no_row : is_shown s' ≡ false
-    pub places : SamePlaces s.table s'.table
-    pub pairs : pairs_of s'.table ≡ pairs_of s.table
-    pub reported : (k : ℕ) → k < count_of s.table → Reported (field_at r k (pair_of (col s.table k))) (col s.table k).capacity (report_of (col s'.table k))
-    pub outside : Beyond (end s.table) a a'
+    pub places : SamePlaces (table_of s) (table_of s')
+    pub pairs : pairs_of (table_of s') ≡ pairs_of (table_of s)
+    pub reported : (k : ℕ) → k < count_of (table_of s) → Reported (field_at r k (pair_of (col (table_of s) k))) (col (table_of s) k).capacity (report_of (col (table_of s') k))
+    pub outside : Beyond (end (table_of s)) a a'
 
   -- A row was next, and is shown: it stands whole in the new places, to which the host is bound. Free: the other bytes of the old and the
   -- new places, and the length of a null.
   pub record RowMet (r : Row) (rest : List Event) (m m' : Meaning) (s s' : Session H) (a a' : List ℕ) : Type 0 where
-    pub host : m' ≡ record { columns = m.columns; carries = m.carries; coming = rest; current = Some r; bound = Some (binds s'.table); error = 0 }
+    pub host : m' ≡ record { columns = m.columns; carries = m.carries; coming = rest; current = Some r; bound = Some (binds (table_of s')); error = 0 }
     pub opened : is_open s' ≡ true
     pub shown : is_shown s' ≡ true
-    pub table : Regrown r s.table s'.table
-    pub whole : (k : ℕ) → k < count_of s.table → StandsWhole (field_at r k (pair_of (col s'.table k))) (col s'.table k) a'
-    pub outside : (p : ℕ) → end s.table ≤ p → end s'.table ≤ p → slice_index a' p ≡ slice_index a p
+    pub table : Regrown r (table_of s) (table_of s')
+    pub whole : (k : ℕ) → k < count_of (table_of s) → StandsWhole (field_at r k (pair_of (col (table_of s') k))) (col (table_of s') k) a'
+    pub outside : (p : ℕ) → end (table_of s) ≤ p → end (table_of s') ≤ p → slice_index a' p ≡ slice_index a p
 
   -- what a fetch that passes its checks leaves, by the event that was next, and for a row by the answer
   abbrev pub AfterFetch : List Event → Result Fetch Fault → (m m' : Meaning) (s s' : Session H) (a a' : List ℕ) → Type 0
@@ -170,12 +178,14 @@ module _ {H : Type 0} where
 abbrev pub record_shown : ℕ → ColumnRecord → List ℕ → Result (Option Shown) Fault
 record_shown k c a = cond c.is_null (Ok None) (typed k (take (bytes_of c) (drop c.start a)) (type_of c.code c.flags))
 
+-- what is read where the checks pass, by whether a row is shown, the table and the arena: 4, 5, a null, 12, or bytes
+abbrev pub looked : Bool → ColumnTable → List ℕ → ℕ → Result (Option Shown) Fault
+looked shown t a k = cond (nat_lt k (count_of t)) (cond shown (record_shown k (col t k) a) (Err (refused NoCurrentRow))) (Err (refused NoSuchColumn))
+
 module _ {H : Type 0} where
-  -- a reading by the table and the arena: 1, 3, 4, 5, a null, 12, or bytes
+  -- a reading: 1, 3, or the above
   abbrev pub reading : Session H → List ℕ → ℕ → Result (Option Shown) Fault
-  reading s a k =
-      past_checks s (length a)
-      (cond (nat_lt k (count_of s.table)) (cond (is_shown s) (record_shown k (col s.table k) a) (Err (refused NoCurrentRow))) (Err (refused NoSuchColumn)))
+  reading s a k = past_checks s (length a) (looked (is_shown s) (table_of s) a k)
 
 -- what a value stands for
 abbrev pub viewed : Option Value → Option Shown
@@ -205,4 +215,4 @@ module _ {H : Type 0} (means : H → Meaning) where
   fetch_due s a = fetch_answer s a (means s.host).coming
 
   abbrev pub row_due : Session H → ℕ → Result (Option Shown) Fault
-  row_due s k = read (pairs_of s.table) (shown_row (means s.host) s) k
+  row_due s k = read (pairs_of (table_of s)) (shown_row (means s.host) s) k

@@ -1,16 +1,28 @@
--- How far a session has come.
-use Rattle.std.specs.Prelude.{Bool, true, false}
-use Rattle.session.specs.declared.state.Stage.{Stage}
-use Rattle.session.specs.declared.state.Stage.TheVariants as stage
-
--- an opening was granted
-abbrev pub opened : Stage → Bool
-opened stage.Unopened = false
-opened stage.Opened = true
-opened stage.Shown = true
+-- How far a session has come: what an opening left, or none.
+use Rattle.std.specs.Prelude.{Bool, false, [], Some, None, Option}
+use Rattle.std.proofs.Common.{arith}
+use Rattle.layout.specs.declared.table.ColumnTable.{ColumnTable}
+use Rattle.session.specs.declared.state.Opened.{Opened}
 
 -- the last fetch showed a row
-abbrev pub shown : Stage → Bool
-shown stage.Unopened = false
-shown stage.Opened = false
-shown stage.Shown = true
+abbrev pub shown : Option Opened → Bool
+shown None = false
+shown (Some o) = o.shown
+
+-- a table with no columns and no room
+abbrev pub empty_table : ColumnTable
+empty_table = record {
+  columns = record { items = [] };
+  room = 0;
+  few = omega arith;
+  laid = λ k l. omega arith;
+  within = omega arith;
+  roomy = λ k l. omega arith;
+  sized = λ k l. omega arith;
+  short = omega arith;
+}
+
+-- the columns as they are bound: an empty table where no opening was granted
+abbrev pub table : Option Opened → ColumnTable
+table None = empty_table
+table (Some o) = o.table

@@ -2,12 +2,12 @@
 ghost use Rattle.std.specs.Prelude.{◌≡◌, ◌<◌, ◌≤◌, true, false, if◌then◌else◌, MatchOption};
 ghost use Rattle.host.specs.Calls.{freed};
 ghost use Rattle.layout.specs.Tables.{count_of, col};
-ghost use Rattle.session.specs.Sessions.{is_open, is_shown, Sound};
+ghost use Rattle.session.specs.Sessions.{is_open, is_shown, table_of, Sound};
 
 use crate::answers::Slip;
-use crate::state::{Session, Stage};
+use crate::state::Session;
 use host::Host;
-use layout::{ColumnRecord, ColumnTable};
+use layout::ColumnRecord;
 
 impl<H: Host> Session<H> {
     // A session over a host, not opened yet. The host may be in any state.
@@ -17,11 +17,7 @@ impl<H: Host> Session<H> {
         ensures no_row { is_shown result ≡ false }
         ensures sound { Sound (H.Host.meaning host) result }
     {
-        Session {
-            host,
-            table: ColumnTable::new(),
-            stage: Stage::Unopened,
-        }
+        Session { host, opened: None }
     }
 
     // Ends the session: the host lets go of its result, and is handed back. The slip of a granted opening is spent.
@@ -31,8 +27,7 @@ impl<H: Host> Session<H> {
         // Neither a session nor a slip can be dropped: each is spent by a pattern that takes all of it.
         let Session {
             mut host,
-            table: _,
-            stage: _,
+            opened: _,
         } = self;
         match slip {
             Some(Slip { mark: _ }) => {}
@@ -46,35 +41,22 @@ impl<H: Host> Session<H> {
     pub fn is_opened(&self) -> bool
         ensures { result ≡ is_open self.now }
     {
-        matches!(self.stage, Stage::Opened | Stage::Shown)
-    }
-
-    // Whether the last fetch showed a row.
-    pub(crate) fn is_shown(&self) -> bool
-        ensures { result ≡ is_shown self.now }
-    {
-        matches!(self.stage, Stage::Shown)
+        self.opened.is_some()
     }
 
     // How many columns are bound: none before an opening was granted.
     pub fn column_count(&self) -> usize
-        ensures { result ≡ (if is_open self.now then count_of self.now.table else 0) }
+        ensures { result ≡ (if is_open self.now then count_of (table_of self.now) else 0) }
     {
-        if self.is_opened() {
-            self.table.count()
-        } else {
-            0
-        }
+        self.opened
+            .as_ref()
+            .map_or(0, |opened| opened.table.count())
     }
 
     // What is known of a bound column.
     pub fn column(&self, i: usize) -> Option<ColumnRecord>
-        ensures { MatchOption result (is_open self.now ≡ true → count_of self.now.table ≤ i) (λ c. (is_open self.now ≡ true) × (i < count_of self.now.table) × (c ≡ col self.now.table i)) }
+        ensures { MatchOption result (is_open self.now ≡ true → count_of (table_of self.now) ≤ i) (λ c. (is_open self.now ≡ true) × (i < count_of (table_of self.now)) × (c ≡ col (table_of self.now) i)) }
     {
-        if self.is_opened() {
-            self.table.column(i)
-        } else {
-            None
-        }
+        self.opened.as_ref()?.table.column(i)
     }
 }

@@ -3,11 +3,11 @@ ghost use Rattle.std.specs.Prelude.{◌≡◌, true, false};
 ghost use Rattle.host.specs.Meanings.{Row};
 ghost use Rattle.rows.specs.Settling.{RowGot};
 ghost use Rattle.session.specs.Settled.{SettledIn};
-ghost use Rattle.session.specs.Sessions.{IsSound, HoldsRow, passes, fetch_due, NotFetched, Fetches};
+ghost use Rattle.session.specs.Sessions.{IsSound, HoldsRow, passes, fetch_due, NotFetched, Fetches, session_of};
 
-use crate::state::{Session, Stage};
+use crate::state::{Opened, Session};
 use host::{Fetched, Host, Report};
-use mysql::Fault;
+use mysql::{Fault, Refusal};
 use rows::{Fetch, populate_dynamic_buffers};
 
 impl<H: Host> Session<H> {
@@ -19,34 +19,46 @@ impl<H: Host> Session<H> {
         ensures sound { IsSound H.Host.meaning self.old → IsSound H.Host.meaning self.new }
         ensures holds { IsSound H.Host.meaning self.old → HoldsRow H.Host.meaning self.old arena.old → HoldsRow H.Host.meaning self.new arena.new }
     {
-        self.check(arena.len())?;
-        self.populate_row_buffers(arena)
+        let opened = self.opened.as_mut().ok_or(Fault::new(Refusal::Unopened))?;
+        opened.check(arena.len())?;
+        opened.populate_row_buffers(&mut self.host, arena)
     }
+}
 
+impl Opened {
     // The host's answer, where the two checks pass.
-    fn populate_row_buffers(&mut self, arena: &mut [u8]) -> Result<Fetch, Fault>
-        requires { passes self.old arena.old ≡ true }
-        ensures answer { IsSound H.Host.meaning self.old → result ≡ fetch_due H.Host.meaning self.old arena.old }
-        ensures after { IsSound H.Host.meaning self.old → Fetches H.Host.meaning result self.old self.new arena.old arena.new }
+    fn populate_row_buffers<H: Host>(
+        &mut self,
+        host: &mut H,
+        arena: &mut [u8],
+    ) -> Result<Fetch, Fault>
+        requires { passes (session_of host.old self.old) arena.old ≡ true }
+        ensures answer { IsSound H.Host.meaning (session_of host.old self.old) → result ≡ fetch_due H.Host.meaning (session_of host.old self.old) arena.old }
+        ensures after { IsSound H.Host.meaning (session_of host.old self.old) → Fetches H.Host.meaning result (session_of host.old self.old) (session_of host.new self.new) arena.old arena.new }
     {
-        self.stage = Stage::Opened;
+        self.shown = false;
         // an array, since it is the host that fills it
         let mut reports = [Report::default(); 64];
         let reports = &mut reports[..self.table.count()];
-        match self.host.fetch(arena, reports) {
+        match host.fetch(arena, reports) {
             Fetched::NoData => Ok(Fetch::End),
-            Fetched::Failed => Err(Fault::host(self.host.error_number())),
-            Fetched::Row | Fetched::Truncated => self.settle(arena, reports),
+            Fetched::Failed => Err(Fault::host(host.error_number())),
+            Fetched::Row | Fetched::Truncated => self.settle(host, arena, reports),
         }
     }
 
     // Shows the row that the host wrote, unless it is refused.
-    fn settle(&mut self, arena: &mut [u8], reports: &[Report]) -> Result<Fetch, Fault>
-        requires { self.old.stage ≡ Stage.Opened }
-        ensures { (row : Row) → RowGot (H.Host.meaning self.old.host) row self.old.table reports.now arena.old → SettledIn (H.Host.meaning self.old.host) row self.old arena.old result (H.Host.meaning self.new.host) self.new arena.new }
+    fn settle<H: Host>(
+        &mut self,
+        host: &mut H,
+        arena: &mut [u8],
+        reports: &[Report],
+    ) -> Result<Fetch, Fault>
+        requires { self.old.shown ≡ false }
+        ensures { (row : Row) → RowGot (H.Host.meaning host.old) row self.old.table reports.now arena.old → SettledIn (H.Host.meaning host.old) row self.old.table arena.old result (H.Host.meaning host.new) self.new arena.new }
     {
-        populate_dynamic_buffers(&mut self.host, &mut self.table, arena, reports)?;
-        self.stage = Stage::Shown;
+        populate_dynamic_buffers(host, &mut self.table, arena, reports)?;
+        self.shown = true;
         Ok(Fetch::Row)
     }
 }

@@ -6,7 +6,7 @@ ghost use Rattle.rows.specs.Bounds.{wanted_of, bound};
 ghost use Rattle.session.specs.Sessions.{is_open, IsSound, HoldsRow, PlacedAs, Opens};
 
 use crate::answers::Slip;
-use crate::state::{Session, Stage};
+use crate::state::{Opened, Session};
 use arrayvec::ArrayVec;
 use host::{Host, bind_all};
 use layout::{ColumnTable, MOST_BYTES};
@@ -77,8 +77,10 @@ impl<H: Host> Session<H> {
     {
         let pairs = bound_columns(&self.host, wanted)?;
         let table = place_columns(&mut self.host, &pairs, arena)?;
-        self.table = table;
-        self.stage = Stage::Opened;
+        self.opened = Some(Opened {
+            table,
+            shown: false,
+        });
         Ok(Slip { mark: () })
     }
 }

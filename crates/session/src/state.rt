@@ -2,34 +2,27 @@
 ghost use Rattle.std.specs.Prelude.{◌≡◌, ℕ, ◌<◌, true};
 ghost use Rattle.layout.specs.Columns.{Fits};
 ghost use Rattle.layout.specs.Tables.{count_of, col};
-ghost use Rattle.session.specs.Stages.{shown};
 
 use layout::ColumnTable;
 use readings::MysqlValue;
 
-// How far a session has come.
-#[derive(Clone, Copy)]
-pub(crate) enum Stage {
-    // No opening was granted.
-    Unopened,
-    // Its columns are bound, and no row is shown.
-    Opened,
-    // The last fetch showed a row, whose bytes lie in the places of the columns.
-    Shown,
+// What a granted opening left: the columns as they are bound, and whether the last fetch showed a row, whose bytes lie in their places.
+#[derive(Drop)]
+pub(crate) struct Opened {
+    pub(crate) table: ColumnTable,
+    pub(crate) shown: bool,
+    ghost fit: { shown ≡ true → (k : ℕ) → k < count_of table → Fits (col table k) },
 }
 
-// A session owns one host. Its table has the columns as they are bound, and none before an opening was granted: a stage with the table
-// in it would be matched once more in every call, after the check that the session is opened.
+// A session: the host, which it owns, and what a granted opening left; nothing before one was granted.
 pub struct Session<H> {
     pub(crate) host: H,
-    pub(crate) table: ColumnTable,
-    pub(crate) stage: Stage,
-    ghost fit: { shown stage ≡ true → (k : ℕ) → k < count_of table → Fits (col table k) },
+    pub(crate) opened: Option<Opened>,
 }
 
 // What a reading shows. It is lent by the arena, whose bytes it has, and by the session, so that neither changes while it is held.
 #[derive(Clone, Copy)]
 pub struct Value<'s, 'a> {
     pub(crate) value: MysqlValue<'a>,
-    pub(crate) of: &'s Stage,
+    pub(crate) of: &'s Opened,
 }

@@ -1,10 +1,11 @@
 use Rattle.std.proofs.Common.{◌≡◌, length, refl, rules}
+use Rattle.session.specs.Sessions.{session_of}
 use Rattle.session.proofs.Fetches.{failure_came, failure_answer, failure_after, row_came, row_got, row_answered, row_after}
-use Rattle.session.proofs.state.Session.populate_row_buffers.Goals as goal
+use Rattle.session.proofs.state.Opened.populate_row_buffers.Goals as goal
 
 pub returns-in-Failed : goal.returns-in-Failed
 returns-in-Failed g c =
-    let s = c.args.self.now in let a = c.args.arena.now in let p = c.requires in
+    let s = session_of c.args.host.now c.args.self.now in let a = c.args.arena.now in let p = c.requires in
     let m = g.H.Host.meaning s.host in
     let m' = g.H.Host.meaning c.fetch.new.self in
     let a' = c.fetch.new.arena in
@@ -19,12 +20,12 @@ returns-in-Failed g c =
 
 pub returns-in-Row : goal.returns-in-Row
 returns-in-Row g c =
-    let s = c.args.self.now in let a = c.args.arena.now in let p = c.requires in
+    let s = session_of c.args.host.now c.args.self.now in let a = c.args.arena.now in let p = c.requires in
     let m = g.H.Host.meaning s.host in
     let m' = g.H.Host.meaning c.fetch.new.self in
     let a' = c.fetch.new.arena in let rs' = c.fetch.new.reports in
-    let s'' = c.settle.new.self in
-    let m'' = g.H.Host.meaning s''.host in
+    let o = c.settle.new.self in
+    let m'' = g.H.Host.meaning c.settle.new.host in
     let formed = g.H.Host.formed c.fetch.new.self in
     let same : length a' ≡ length a = search rules in
     let came = row_came c.fetch.result m m' _ rs' a a' c.in-Row.is c.fetch.ensures in
@@ -32,8 +33,8 @@ returns-in-Row g c =
     record {
       answer = λ sound.
           let got = row_got m s sound a p came.0 m' _ rs' a' w formed (search rules) same in
-          row_answered m s sound a p came.0 m' _ rs' a' w formed (search rules) same _ s'' m'' c.settle.new.arena refl refl c.settle.result (c.settle.ensures w.fields got);
+          row_answered m s sound a p came.0 m' _ rs' a' w formed (search rules) same _ o c.settle.new.host m'' c.settle.new.arena refl c.settle.result (c.settle.ensures w.fields got);
       after = λ sound.
           let got = row_got m s sound a p came.0 m' _ rs' a' w formed (search rules) same in
-          row_after m s sound a p came.0 m' _ rs' a' w formed (search rules) same _ s'' m'' c.settle.new.arena refl refl c.settle.result (c.settle.ensures w.fields got);
+          row_after m s sound a p came.0 m' _ rs' a' w formed (search rules) same _ o c.settle.new.host m'' c.settle.new.arena refl c.settle.result (c.settle.ensures w.fields got);
     }
