@@ -51,6 +51,7 @@ fn first_field(event: Option<Event>) -> Option<Field> {
 
 #[test]
 fn cut_at_every_byte(rt: HostRuntime) {
+    // over lengths, and not over what stands there
     for n in 0..HI.len() {
         assert!(rt; Recording::new(&HI[0..n]).is_err(), "cut short");
     }

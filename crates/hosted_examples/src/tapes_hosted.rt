@@ -13,6 +13,7 @@ const TWO: &[u8] =
 // No columns, and one row.
 const NO_COLUMNS: &[u8] = b"\x00\x00\x01\x00\x00";
 
+// A record. (The tests of trays have the same lines: no crate of tests lies below both.)
 fn place(code: u8, start: usize, capacity: usize) -> BindRecord {
     BindRecord {
         code,

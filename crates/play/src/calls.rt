@@ -48,7 +48,7 @@ impl From<Fetch> for Answer {
     }
 }
 
-// Why calls could not be played to their end.
+// Why calls could not be played to their end. An enum of one case so far, of which a caller need not learn a new type for the next.
 #[derive(Clone, Copy)]
 pub enum PlayError {
     // There was no memory for an answer.

@@ -6,7 +6,7 @@ ghost use Rattle.session.specs.Settled.{SettledIn};
 ghost use Rattle.session.specs.Sessions.{IsSound, HoldsRow, passes, fetch_due, NotFetched, Fetches, session_of};
 
 use crate::state::{Opened, Session};
-use host::{Fetched, Host, Report};
+use host::{Fetched, Host, MOST_COLUMNS, Report};
 use mysql::{Fault, Refusal};
 use rows::{Fetch, populate_dynamic_buffers};
 
@@ -38,7 +38,7 @@ impl Opened {
     {
         self.shown = false;
         // an array, since it is the host that fills it
-        let mut reports = [Report::default(); 64];
+        let mut reports = [Report::default(); MOST_COLUMNS];
         let reports = &mut reports[..self.table.count()];
         match host.fetch(arena, reports) {
             Fetched::NoData => Ok(Fetch::End),

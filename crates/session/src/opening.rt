@@ -8,7 +8,7 @@ ghost use Rattle.session.specs.Sessions.{is_open, IsSound, HoldsRow, PlacedAs, O
 use crate::answers::Slip;
 use crate::state::{Opened, Session};
 use arrayvec::ArrayVec;
-use host::{Host, bind_all};
+use host::{Host, MOST_COLUMNS, bind_all};
 use layout::{ColumnTable, MOST_BYTES};
 use mysql::{Column, Fault, MysqlType, Refusal, taken};
 
@@ -28,7 +28,7 @@ fn bound_column<H: Host>(
 fn bound_columns<H: Host>(
     host: &H,
     wanted: &[Option<MysqlType>],
-) -> Result<ArrayVec<Column, 64>, Fault>
+) -> Result<ArrayVec<Column, MOST_COLUMNS>, Fault>
     ensures { MatchResult result (λ pairs. bound wanted.now (H.Host.meaning host.now).columns ≡ Ok pairs.items) (λ f. bound wanted.now (H.Host.meaning host.now).columns ≡ Err f) }
 {
     let mut pairs = ArrayVec::new();

@@ -14,7 +14,9 @@ pub(crate) struct Opened {
     ghost fit: { shown ≡ true → (k : ℕ) → k < count_of table → Fits (col table k) },
 }
 
-// A session: the host, which it owns, and what a granted opening left; nothing before one was granted.
+// A session: the host, which it owns, and what a granted opening left; nothing before one was granted. That it agrees with what its host means,
+// `IsSound`, and that a shown row stands in the arena, `HoldsRow`, are premises in clauses and no ghost fields: for the one the struct would have
+// a bound, and every definition that names a session the host's ghost members; and the arena is the caller's.
 pub struct Session<H> {
     pub(crate) host: H,
     pub(crate) opened: Option<Opened>,

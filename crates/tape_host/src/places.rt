@@ -2,7 +2,7 @@
 ghost use Rattle.std.specs.Prelude.{◌≡◌, ◌≤◌, length, take};
 ghost use Rattle.host.specs.Calls.{end, in_order, all_end_by};
 
-use host::BindRecord;
+use host::{BindRecord, MOST_COLUMNS};
 
 // Where a place ends.
 fn end_of(place: BindRecord) -> u128
@@ -28,11 +28,11 @@ pub(crate) fn all_end_by(arena: usize, records: &[BindRecord]) -> bool
 }
 
 // Records at the front of an array.
-pub(crate) fn copy_records(records: &[BindRecord]) -> [BindRecord; 64]
+pub(crate) fn copy_records(records: &[BindRecord]) -> [BindRecord; MOST_COLUMNS]
     requires { length records.now ≤ 64 }
     ensures { take (length records.now) result ≡ records.now }
 {
-    let mut copy = [BindRecord::default(); 64];
+    let mut copy = [BindRecord::default(); MOST_COLUMNS];
     copy[..records.len()].copy_from_slice(records);
     copy
 }

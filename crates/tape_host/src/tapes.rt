@@ -4,7 +4,7 @@ ghost use Rattle.std.specs.Option.{option_map, unwrap_or, ForSome};
 ghost use Rattle.host.specs.Calls.{in_order};
 ghost use Rattle.tape.specs.Recordings.{event_columns};
 
-use host::BindRecord;
+use host::{BindRecord, MOST_COLUMNS};
 use tape::{Events, Row};
 
 #[derive(Clone, Copy)]
@@ -13,7 +13,7 @@ pub struct Tape<'a> {
     pub(crate) events: Events<'a>,
     pub(crate) current: Option<Row<'a>>,
     // the bind list, if there is one, at the front of an array: a tape is Copy, and an ArrayVec is not
-    pub(crate) records: Option<[BindRecord; 64]>,
+    pub(crate) records: Option<[BindRecord; MOST_COLUMNS]>,
     pub(crate) error: u16,
     ghost few: { length (event_columns events) ≤ 64 },
     // the current row has the same columns
