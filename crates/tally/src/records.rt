@@ -11,7 +11,8 @@ pub(crate) fn own_records<H: Host>(host: &H) -> ArrayVec<BindRecord, MOST_COLUMN
 {
     let mut records = ArrayVec::new();
     for i in 0..host.column_count() {
-        records.push(BindRecord::from(host.column(i)));
+        let column = host.column(i);
+        records.push(BindRecord::from(column));
     }
     records
 }

@@ -11,7 +11,7 @@ loop-i-preserved g c =
     let i = c.loop-i.i in
     let l : i < length cs = omega (arith, c.column_count-i-end.ensures) in
     let long = length-map cs own_record in
-    let one : c.from.result ≡ _ = c.from.ensures ∙ ap own_record c.column.ensures ∙ sym (get_or-map own_record cs i no_column no_record l) in
+    let one : c.from.result ≡ _ = c.from.ensures ∙ ap own_record c.column-column.ensures ∙ sym (get_or-map own_record cs i no_column no_record l) in
     let more = take_more (own_records cs) i no_record (omega arith) in
     let now = c.push.ensures.items in
     cc
