@@ -34,7 +34,7 @@ PATTERNS = {
         ("a conversion or a printing as a function of its own", r"fn (show_\w+|layer_name|sentence|last_error_type|wide|row|count_tape|count_tray|fetch_answer|end_of|own_record|told|refusal_of|number_of)\b"),
     ],
     6: [
-        ("an array of a fixed length that holds fewer", r"\[(ColumnRecord|BindRecord|Column|Report|NO_\w+|[A-Z]\w+ \{[^}]*\}|\w+::default\(\)); (64|\d+)\]"),
+        ("an array of a fixed length that holds fewer", r"\[(ColumnRecord|BindRecord|Column|Report|NO_\w+|[A-Z]\w+ \{[^}]*\}|\w+::default\(\)); (64|\d+|MOST_COLUMNS)\]"),
         ("a count of what stands beside it", r"^ +(pub(\(crate\))? )?(count|left|rows): (usize|u16),"),
     ],
     7: [
