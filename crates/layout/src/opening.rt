@@ -38,6 +38,7 @@ impl ColumnTable {
             columns: ArrayVec::new(),
             room,
         };
+        // (Two fields are copied: a column is another type than its record.)
         for column in columns {
             table.push(ColumnRecord {
                 code: column.code,

@@ -21,7 +21,7 @@ pub enum Call<'a> {
     ReadTime(usize),
 }
 
-// What a call answers.
+// What a call answers. An enum of its own: it has nine cases.
 #[derive(Drop)]
 pub enum Answer {
     Opened,

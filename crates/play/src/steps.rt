@@ -66,7 +66,7 @@ impl<'a, H: Host> Player<'a, H> {
             .map_or_else(Answer::Refused, Answer::from)
     }
 
-    // A raw reading; the bytes are copied.
+    // A raw reading; the bytes are copied. A match: of the three cases only the copy can fail.
     fn read(&self, column: usize) -> Result<Answer, PlayError>
         requires { IsReady H.Host.meaning self.now }
         ensures { SaidIf (ideal H.Host.meaning self.now) (reading column) result }

@@ -6,7 +6,8 @@ ghost use Rattle.layout.specs.Tables.{count_of, col};
 use layout::ColumnTable;
 use readings::MysqlValue;
 
-// What a granted opening left: the columns as they are bound, and whether the last fetch showed a row, whose bytes lie in their places.
+// What a granted opening left: the columns as they are bound, and whether the last fetch showed a row, whose bytes lie in their places. (A flag:
+// the row itself stands in the arena.)
 #[derive(Drop)]
 pub(crate) struct Opened {
     pub(crate) table: ColumnTable,

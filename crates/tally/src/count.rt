@@ -44,7 +44,7 @@ fn add_row(totals: Totals, reports: &[Report]) -> Totals
     add_reports(row, reports)
 }
 
-// Fetches to the end, and counts.
+// Fetches to the end, and counts. A loop: each turn has the reports that its fetch wrote.
 fn count_events<H: Host>(host: &mut H, reports: &mut [Report]) -> Totals
     requires bound { (H.Host.meaning host.old).bound ≡ Some (own_records (H.Host.meaning host.old).columns) }
     requires reported { length reports.old ≡ length (H.Host.meaning host.old).columns }

@@ -22,7 +22,7 @@ impl<'a> Tape<'a> {
         })
     }
 
-    // The records of its columns; none where there is no bind list.
+    // The records of its columns; none where there is no bind list. (A match: the slice in a closure would need a fact of the records.)
     pub(crate) fn places(&self) -> &[BindRecord]
         ensures are { result.now ≡ places_of self.now }
         ensures counted { is_some (bound_of self.now) ≡ true → length result.now ≡ length (columns_of self.now) }

@@ -4,7 +4,7 @@ ghost use Rattle.host.specs.Calls.{end, in_order, all_end_by};
 
 use host::{BindRecord, MOST_COLUMNS};
 
-// Where a place ends.
+// Where a place ends: a sum of 128 bits, which no start and capacity can pass.
 fn end_of(place: BindRecord) -> u128
     ensures { result ≡ end place }
 {
