@@ -34,19 +34,3 @@ impl Display for OfTape {
         )
     }
 }
-
-// The count of a tray, whose rows do not fail, so that none is said to.
-#[derive(Clone, Copy)]
-pub struct OfTray(pub Totals);
-
-impl Display for OfTray {
-    fn fmt<W: fmt::Write>(&self, f: &mut fmt::Formatter<W>) -> fmt::Result {
-        let Totals {
-            rows,
-            nulls,
-            bytes,
-            ..
-        } = self.0;
-        write!(f, "{rows} rows, {nulls} nulls, {bytes} bytes")
-    }
-}

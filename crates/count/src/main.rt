@@ -4,13 +4,13 @@
 mod count;
 
 use anyhow::anyhow;
-use count::{Counted, OfTape, OfTray};
+use count::{Counted, OfTape};
+use counts::print_tray;
 use files::{end, print_file, print_held};
 use std::env;
 use std::process::ExitCode;
 use tally::tally;
 use tape_host::Tape;
-use tray::Tray;
 
 // What stands before the number of a tray's rows.
 const TRAY: &str = "--tray";
@@ -21,17 +21,6 @@ fn count_file(rt: &HostRuntime, name: &str) -> anyhow::Result<bool> {
         let counted = Tape::new(bytes).map(|mut tape| Counted(tally(&mut tape).map(OfTape)));
         print_held(rt, name, counted)
     })
-}
-
-// Prints the count of a tray's rows, and says whether so many rows can be had.
-fn count_rows(rt: &HostRuntime, rows: &str) -> anyhow::Result<bool> {
-    let Ok(rows) = rows.parse::<u16>() else {
-        eprintln!(rt; "{rows}: a tray has 0 to 65535 rows")?;
-        return Ok(false);
-    };
-    let counted = Counted(tally(&mut Tray::new(rows)).map(OfTray));
-    print!(rt; "tray of {rows}: {counted}")?;
-    Ok(true)
 }
 
 // Counts each file and tray that is named, and fails where one cannot be counted or none is named.
@@ -47,7 +36,7 @@ fn run(rt: &HostRuntime) -> anyhow::Result<()> {
             let Some(rows) = words.next() else {
                 return Err(anyhow!("--tray wants a number of rows, 0 to 65535"));
             };
-            all_counted &= count_rows(rt, rows.as_str())?;
+            all_counted &= print_tray(rt, rows.as_str())?;
         } else {
             all_counted &= count_file(rt, word.as_str())?;
         }

@@ -1,30 +1,46 @@
-// Shows what tapes hold: `show FILE..` prints the columns and the events of each.
+// Shows what tapes hold: `show FILE..` prints the columns and the events of each, and `--tray N` the count of a tray of N rows.
 #![tactic(auto)]
 
 mod print;
 
 use anyhow::anyhow;
+use counts::print_tray;
 use files::{end, print_file, print_held};
 use print::InLines;
 use std::env;
 use std::process::ExitCode;
 use tape::Recording;
 
-// Shows each file that is named, and fails where one is no tape or none is named.
+// What stands before the number of a tray's rows.
+const TRAY: &str = "--tray";
+
+// Prints what a file holds, or why it is no tape, and says whether it is one.
+fn show_file(rt: &HostRuntime, name: &str) -> anyhow::Result<bool> {
+    print_file(rt, name, |bytes| {
+        print_held(rt, name, Recording::new(bytes).map(InLines))
+    })
+}
+
+// Shows each file and tray that is named, and fails where one cannot be shown or none is named.
 fn run(rt: &HostRuntime) -> anyhow::Result<()> {
-    let mut names = env::args(rt)?.skip(1).peekable();
-    if names.peek().is_none() {
-        return Err(anyhow!("name the tapes to show: show FILE.."));
+    let mut words = env::args(rt)?.skip(1).peekable();
+    if words.peek().is_none() {
+        return Err(anyhow!("name what to show: show FILE.. or show --tray N"));
     }
-    let mut all_tapes = true;
-    for name in names {
-        let name = name.as_str();
-        all_tapes &= print_file(rt, name, |bytes| {
-            print_held(rt, name, Recording::new(bytes).map(InLines))
-        })?;
+    let mut all_shown = true;
+    // no `for`: one word may take the next one with it
+    while let Some(word) = words.next() {
+        if word.as_str() == TRAY {
+            let Some(rows) = words.next() else {
+                return Err(anyhow!("--tray wants a number of rows, 0 to 65535"));
+            };
+            all_shown &= print_tray(rt, rows.as_str())?;
+        } else {
+            all_shown &= show_file(rt, word.as_str())?;
+        }
     }
-    if !all_tapes {
-        return Err(anyhow!("not every file is a tape"));
+    if !all_shown {
+        return Err(anyhow!("not everything that was named can be shown"));
     }
     Ok(())
 }
