@@ -1,0 +1,51 @@
+//! Asks the original's files and prints what they answer (docs/oracle.md).
+
+mod lines;
+mod live;
+mod random;
+mod record;
+mod values;
+
+use std::io::{self, BufWriter, Write};
+use std::process::ExitCode;
+
+#[global_allocator]
+static GUARD: mysqlclient_sys::guard::Guard = mysqlclient_sys::guard::Guard;
+
+const USAGE: &str = "oracle record              the recorded answers
+oracle exhaustive          every pair kept, every kind, every pair of code and one flag
+oracle live SEED COUNT     so many random cases
+oracle witness             what the original does at each witness of docs/DIFFERENCES.md";
+
+fn main() -> ExitCode {
+    std::panic::set_hook(Box::new(|panic| {
+        if std::env::var_os("ORACLE_PANICS").is_some() {
+            eprintln!("{panic}");
+        }
+    }));
+    let words: Vec<String> = std::env::args().skip(1).collect();
+    let words: Vec<&str> = words.iter().map(String::as_str).collect();
+    let mut to = BufWriter::new(io::stdout().lock());
+    let mut out = |line: String| writeln!(to, "{line}").expect("standard output");
+    match words.as_slice() {
+        ["record"] => record::all(&mut out),
+        ["exhaustive"] => live::exhaustive(&mut out),
+        ["live", seed, count] => match (seed.parse(), count.parse::<usize>()) {
+            (Ok(seed), Ok(count)) => {
+                let mut maker = live::Maker::new(seed);
+                (0..count).for_each(|_| out(maker.line()));
+            }
+            _ => return usage(),
+        },
+        _ => return usage(),
+    }
+    match to.flush() {
+        Ok(()) => ExitCode::SUCCESS,
+        Err(_) => ExitCode::FAILURE,
+    }
+}
+
+fn usage() -> ExitCode {
+    eprintln!("{USAGE}");
+    ExitCode::FAILURE
+}
