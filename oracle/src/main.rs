@@ -5,6 +5,7 @@ mod live;
 mod random;
 mod record;
 mod values;
+mod witness;
 
 use std::io::{self, BufWriter, Write};
 use std::process::ExitCode;
@@ -15,7 +16,9 @@ static GUARD: mysqlclient_sys::guard::Guard = mysqlclient_sys::guard::Guard;
 const USAGE: &str = "oracle record              the recorded answers
 oracle exhaustive          every pair kept, every kind, every pair of code and one flag
 oracle live SEED COUNT     so many random cases
-oracle witness             what the original does at each witness of docs/DIFFERENCES.md";
+oracle witness             what the original does at each witness of docs/DIFFERENCES.md
+oracle witness lines       those that the port can be asked too, as lines
+oracle witness tapes DIR   tapes of the rows after a refused one";
 
 fn main() -> ExitCode {
     std::panic::set_hook(Box::new(|panic| {
@@ -30,6 +33,9 @@ fn main() -> ExitCode {
     match words.as_slice() {
         ["record"] => record::all(&mut out),
         ["exhaustive"] => live::exhaustive(&mut out),
+        ["witness"] => witness::text(&mut out),
+        ["witness", "lines"] => witness::lines(&mut out),
+        ["witness", "tapes", folder] => witness::tapes(folder).expect("a folder to write to"),
         ["live", seed, count] => match (seed.parse(), count.parse::<usize>()) {
             (Ok(seed), Ok(count)) => {
                 let mut maker = live::Maker::new(seed);
