@@ -27,6 +27,8 @@ pub struct Habits {
     pub short_columns: Option<usize>,
     /// Departs from the rules: a column fetch is refused with this number.
     pub failing_columns: Option<u32>,
+    /// Departs from the rules, as MariaDB's library does: a null leaves the truncation mark.
+    pub null_keeps_mark: bool,
     /// Departs from the rules: the length that is reported of every fixed field.
     pub fixed_length: Option<u64>,
 }
@@ -165,7 +167,9 @@ unsafe fn give(field: &Field, bind: &MYSQL_BIND, offset: usize, most: usize, hab
     };
     unsafe {
         report(bind.is_null, null);
-        report(bind.error, truncated);
+        if !(null && habits.null_keeps_mark) {
+            report(bind.error, truncated);
+        }
         if let Some(length) = length {
             report(bind.length, length);
         }
