@@ -18,6 +18,7 @@ oracle exhaustive          every pair kept, every kind, every pair of code and o
 oracle live SEED COUNT     so many random cases
 oracle witness             what the original does at each witness of docs/DIFFERENCES.md
 oracle witness lines       those that the port can be asked too, as lines
+oracle witness law         what the law demands where the original goes wrong, as lines
 oracle witness tapes DIR   tapes of the rows after a refused one";
 
 fn main() -> ExitCode {
@@ -35,6 +36,7 @@ fn main() -> ExitCode {
         ["exhaustive"] => live::exhaustive(&mut out),
         ["witness"] => witness::text(&mut out),
         ["witness", "lines"] => witness::lines(&mut out),
+        ["witness", "law"] => witness::law(&mut out),
         ["witness", "tapes", folder] => witness::tapes(folder).expect("a folder to write to"),
         ["live", seed, count] => match (seed.parse(), count.parse::<usize>()) {
             (Ok(seed), Ok(count)) => {
