@@ -4,6 +4,8 @@
 #include <stdio.h>
 #include <stdlib.h>
 #include <string.h>
+#include <sys/wait.h>
+#include <unistd.h>
 
 #ifdef MARIADB_BASE_VERSION
 typedef my_bool mark;
@@ -219,6 +221,7 @@ static void failures(int store) {
   for (int i = 0; i < 4 && !store; i++) {
     int answer = mysql_stmt_fetch(statement);
     show("fetch", answer, statement, &place, 4);
+    printf("    its text: \"%s\"\n", mysql_stmt_error(statement));
   }
   mysql_stmt_close(statement);
 }
@@ -241,13 +244,38 @@ static void fields(void) {
   mysql_stmt_close(statement);
 }
 
+static void connect_to(const char *path) {
+  connection = mysql_init(NULL);
+  if (!mysql_real_connect(connection, NULL, "u", "", NULL, 0, path, 0)) {
+    fprintf(stderr, "no connection: %s\n", mysql_error(connection));
+    exit(1);
+  }
+}
+
+/* A column fetch without a bind, in a process of its own, since it may end there. */
+static void unbound_column(const char *path) {
+  printf("a column fetch without a bind\n");
+  if (fork() == 0) {
+    connect_to(path);
+    MYSQL_STMT *statement = prepare("253:0;00000161");
+    MYSQL_BIND part;
+    struct place piece;
+    bind_to(&part, &piece, 253, 0, 4);
+    execute(statement, 1);
+    mysql_stmt_fetch(statement);
+    show("column fetch", mysql_stmt_fetch_column(statement, &part, 0, 0), statement, &piece, 6);
+    mysql_close(connection);
+    exit(0);
+  }
+  int status;
+  wait(&status);
+  if (WIFSIGNALED(status)) printf("  crashes\n");
+}
+
 int main(int count, char **words) {
   setvbuf(stdout, NULL, _IOLBF, 0);
-  connection = mysql_init(NULL);
-  if (count != 2 || !mysql_real_connect(connection, NULL, "u", "", NULL, 0, words[1], 0)) {
-    fprintf(stderr, "no connection: %s\n", mysql_error(connection));
-    return 1;
-  }
+  if (count != 2) return 1;
+  connect_to(words[1]);
   printf("%s, a time has %zu bytes\n", mysql_get_client_info(), sizeof(MYSQL_TIME));
   fields();
   texts();
@@ -259,9 +287,9 @@ int main(int count, char **words) {
   lingering();
   failures(1);
   mysql_close(connection);
-  connection = mysql_init(NULL);
-  if (!mysql_real_connect(connection, NULL, "u", "", NULL, 0, words[1], 0)) return 1;
+  connect_to(words[1]);
   failures(0);
   mysql_close(connection);
+  unbound_column(words[1]);
   return 0;
 }
