@@ -35,6 +35,11 @@ fn main() {
     }
     let shims = fs::canonicalize("shims").unwrap();
     link_all(&shims, &tree);
+    println!("cargo:rerun-if-env-changed=CLIENT_LIBRARY");
+    if let (Ok(library), true) = (env::var("CLIENT_LIBRARY"), env::var_os("CARGO_FEATURE_REAL").is_some()) {
+        println!("cargo:rustc-link-arg-bins=-Wl,--allow-shlib-undefined");
+        println!("cargo:rustc-link-arg-bins={library}");
+    }
 }
 
 /// Links every file of a folder and of the folders in it.

@@ -21,4 +21,7 @@ pub mod data_types {
     pub use crate::mysql::types::date_and_time::{MysqlTime, MysqlTimestampType};
 }
 
+#[cfg(not(feature = "real"))]
 pub use crate::mysql::drive;
+#[cfg(feature = "real")]
+pub use crate::mysql::over_library;

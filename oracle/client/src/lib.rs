@@ -8,7 +8,19 @@
 pub mod guard;
 pub mod names;
 pub mod recording;
-mod statement;
 
 pub use names::*;
-pub use statement::*;
+
+#[cfg(not(feature = "real"))]
+mod connection;
+#[cfg(not(feature = "real"))]
+mod statement;
+
+#[cfg(not(feature = "real"))]
+pub use {connection::*, statement::*};
+
+#[cfg(feature = "real")]
+mod real;
+
+#[cfg(feature = "real")]
+pub use real::*;

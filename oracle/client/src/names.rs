@@ -58,8 +58,14 @@ codes! {
 #[derive(Clone, Copy)]
 pub struct MYSQL_FIELD {
     pub name: *mut c_char,
+    pub other_names: [*mut c_char; 6],
+    pub lengths: [c_ulong; 2],
+    pub name_lengths: [c_uint; 7],
     pub flags: c_uint,
+    pub decimals: c_uint,
+    pub charsetnr: c_uint,
     pub type_: enum_field_types,
+    pub extension: *mut c_void,
 }
 
 #[repr(C)]
@@ -69,9 +75,19 @@ pub struct MYSQL_BIND {
     pub is_null: *mut my_bool,
     pub buffer: *mut c_void,
     pub error: *mut my_bool,
+    pub row_ptr: *mut c_void,
+    pub functions: [*mut c_void; 3],
     pub buffer_length: c_ulong,
+    pub offset: c_ulong,
+    pub length_value: c_ulong,
+    pub param_number: c_uint,
+    pub pack_length: c_uint,
     pub buffer_type: enum_field_types,
+    pub error_value: my_bool,
     pub is_unsigned: my_bool,
+    pub long_data_used: my_bool,
+    pub is_null_value: my_bool,
+    pub extension: *mut c_void,
 }
 
 #[repr(C)]
@@ -92,7 +108,7 @@ pub struct MYSQL_TIME {
 pub struct MYSQL;
 
 pub struct MYSQL_RES {
-    pub(crate) fields: Vec<MYSQL_FIELD>,
+    pub fields: Vec<MYSQL_FIELD>,
 }
 
 #[repr(C)]
@@ -114,60 +130,3 @@ pub enum enum_mysql_set_option {
     MYSQL_OPTION_MULTI_STATEMENTS_ON,
     MYSQL_OPTION_MULTI_STATEMENTS_OFF,
 }
-
-// A connection to nothing. What a statement needs of it are the first and the last of these; the others are never called.
-
-pub unsafe fn mysql_server_init(_: c_int, _: *mut *mut c_char, _: *mut *mut c_char) -> c_int {
-    0
-}
-
-pub unsafe fn mysql_init(_: *mut MYSQL) -> *mut MYSQL {
-    Box::into_raw(Box::new(MYSQL))
-}
-
-pub unsafe fn mysql_options(_: *mut MYSQL, _: mysql_option, _: *const c_void) -> c_int {
-    0
-}
-
-pub unsafe fn mysql_close(connection: *mut MYSQL) {
-    drop(unsafe { Box::from_raw(connection) });
-}
-
-pub unsafe fn mysql_error(_: *mut MYSQL) -> *const c_char {
-    c"".as_ptr()
-}
-
-#[allow(clippy::too_many_arguments)]
-pub unsafe fn mysql_real_connect(
-    _: *mut MYSQL,
-    _: *const c_char,
-    _: *const c_char,
-    _: *const c_char,
-    _: *const c_char,
-    _: c_uint,
-    _: *const c_char,
-    _: c_ulong,
-) -> *mut MYSQL {
-    unimplemented!("nothing is connected to")
-}
-
-pub unsafe fn mysql_real_query(_: *mut MYSQL, _: *const c_char, _: c_ulong) -> c_int {
-    unimplemented!("nothing is asked")
-}
-
-pub unsafe fn mysql_set_server_option(_: *mut MYSQL, _: enum_mysql_set_option) -> c_int {
-    unimplemented!("there is no server")
-}
-
-pub unsafe fn mysql_store_result(_: *mut MYSQL) -> *mut MYSQL_RES {
-    unimplemented!("nothing is asked")
-}
-
-pub unsafe fn mysql_more_results(_: *mut MYSQL) -> my_bool {
-    false
-}
-
-pub unsafe fn mysql_next_result(_: *mut MYSQL) -> c_int {
-    -1
-}
-

@@ -235,8 +235,14 @@ pub unsafe fn mysql_stmt_result_metadata(statement: *mut MYSQL_STMT) -> *mut MYS
     let columns = unsafe { &(*statement).recording.columns };
     let field = |(code, flags): &(u8, u32)| MYSQL_FIELD {
         name: ptr::null_mut(),
+        other_names: [ptr::null_mut(); 6],
+        lengths: [0; 2],
+        name_lengths: [0; 7],
         flags: *flags,
+        decimals: 0,
+        charsetnr: 0,
         type_: enum_field_types(u32::from(*code)),
+        extension: ptr::null_mut(),
     };
     Box::into_raw(Box::new(MYSQL_RES {
         fields: columns.iter().map(field).collect(),

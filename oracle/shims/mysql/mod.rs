@@ -8,5 +8,8 @@ pub mod types;
 pub mod value;
 
 pub use self::backend::{Mysql, MysqlType};
+#[cfg(not(feature = "real"))]
 pub use self::connection::drive;
+#[cfg(feature = "real")]
+pub use self::connection::over_library;
 pub use self::value::{MysqlValue, NumericRepresentation};

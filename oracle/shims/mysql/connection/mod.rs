@@ -3,7 +3,10 @@
 use crate::connection::statement_cache;
 
 mod bind;
+#[cfg(not(feature = "real"))]
 pub mod drive;
+#[cfg(feature = "real")]
+pub mod over_library;
 mod raw;
 mod stmt;
 mod url;

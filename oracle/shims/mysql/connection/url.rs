@@ -1,8 +1,10 @@
-// How a server is reached. Nothing is connected to here.
+// How a server is reached: by a socket, as a user without a password.
 
-use std::ffi::CStr;
+use std::ffi::{CStr, CString};
 
-pub struct ConnectionOptions;
+pub struct ConnectionOptions {
+    pub socket: CString,
+}
 
 pub struct ClientFlags;
 
@@ -18,7 +20,7 @@ impl ConnectionOptions {
     }
 
     pub fn user(&self) -> &CStr {
-        c""
+        c"u"
     }
 
     pub fn password(&self) -> Option<&CStr> {
@@ -34,7 +36,7 @@ impl ConnectionOptions {
     }
 
     pub fn unix_socket(&self) -> Option<&CStr> {
-        None
+        Some(&self.socket)
     }
 
     pub fn client_flags(&self) -> ClientFlags {
