@@ -7,7 +7,7 @@ pub type my_bool = bool;
 pub const MYSQL_NO_DATA: c_uint = 100;
 pub const MYSQL_DATA_TRUNCATED: c_uint = 101;
 
-/// The code of a field. The published bindings have an enum; here any number can be asked for.
+/// The code of a field. The C headers have an enum; here any number can be asked for.
 #[repr(transparent)]
 #[derive(Clone, Copy, Debug, PartialEq, Eq, Hash)]
 pub struct enum_field_types(pub c_uint);
