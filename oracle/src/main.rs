@@ -16,6 +16,7 @@ static GUARD: mysqlclient_sys::guard::Guard = mysqlclient_sys::guard::Guard;
 const USAGE: &str = "oracle record              the recorded answers
 oracle exhaustive          every pair kept, every kind, every pair of code and one flag
 oracle live SEED COUNT     so many random cases
+oracle law SEED COUNT      so many random tapes with lost figures, and what the law demands of them
 oracle witness             what the original does at each witness of docs/DIFFERENCES.md
 oracle witness lines       those that the port can be asked too, as lines
 oracle witness law         what the law demands where the original goes wrong, as lines
@@ -38,10 +39,11 @@ fn main() -> ExitCode {
         ["witness", "lines"] => witness::lines(&mut out),
         ["witness", "law"] => witness::law(&mut out),
         ["witness", "tapes", folder] => witness::tapes(folder).expect("a folder to write to"),
-        ["live", seed, count] => match (seed.parse(), count.parse::<usize>()) {
+        [kind @ ("live" | "law"), seed, count] => match (seed.parse(), count.parse::<usize>()) {
             (Ok(seed), Ok(count)) => {
                 let mut maker = live::Maker::new(seed);
-                (0..count).for_each(|_| out(maker.line()));
+                let line = if *kind == "live" { live::Maker::line } else { live::Maker::law };
+                (0..count).for_each(|_| out(line(&mut maker)));
             }
             _ => return usage(),
         },
