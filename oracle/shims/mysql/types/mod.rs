@@ -1,0 +1,4 @@
+// Readings of values.
+
+pub mod date_and_time;
+mod primitives;

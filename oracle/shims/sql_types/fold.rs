@@ -1,0 +1,3 @@
+// Sums and averages, which no reading asks for.
+
+pub trait Foldable {}

@@ -1,0 +1,1 @@
+// Operators between types, which no reading asks for.

@@ -1,0 +1,3 @@
+// Order between types, which no reading asks for.
+
+pub trait SqlOrd {}

@@ -1,0 +1,5 @@
+// The size of a tuple of types.
+
+pub trait TupleSize {
+    const SIZE: usize;
+}
