@@ -1,5 +1,5 @@
 // The outlet of a class.
-ghost use Rattle.std.specs.Prelude.{◌≡◌, ◌^◌, true, false, [], length, Ok};
+ghost use Rattle.std.specs.Prelude.{◌≡◌, ◌^◌, ◌<◌, true, false, [], length, Ok, IfOk, IfSome};
 ghost use Rattle.readings.specs.Integers.{integer};
 ghost use Rattle.rows.specs.Standing.{pairs_of};
 ghost use Rattle.rows.specs.Dues.{opening, read_as};
@@ -43,7 +43,8 @@ fn is_of_class<H: Host>(session: &Session<H>, arena: &[u8], class: i32) -> bool
 fn copy_outlet<H: Host>(session: &Session<H>, arena: &[u8], into: &mut [u8]) -> Result<usize, Fault>
     requires ready { Ready (H.Host.meaning session.now.host) session.now arena.now }
     requires opened { is_open session.now ≡ true }
-    ensures { Copied (read_as as_text 1 (row_due H.Host.meaning session.now 1)) result into.old into.new }
+    ensures copied { Copied (read_as as_text 1 (row_due H.Host.meaning session.now 1)) result into.old into.new }
+    ensures small { IfOk result (λ n. n < 2 ^ 63) }
 {
     match session.read(arena, OUTLET)? {
         Some(shown) => {
@@ -65,7 +66,8 @@ fn find<H: Host>(
 ) -> Result<Option<usize>, Fault>
     requires ready { Ready (H.Host.meaning session.old.host) session.old arena.old }
     requires opened { is_open session.old ≡ true }
-    ensures { OutletIn (pairs_of (table_of session.old)) (length arena.old) class (H.Host.meaning session.old.host).coming into.old result into.new }
+    ensures found { OutletIn (pairs_of (table_of session.old)) (length arena.old) class (H.Host.meaning session.old.host).coming into.old result into.new }
+    ensures small { IfOk result (λ found. IfSome found (λ n. n < 2 ^ 63)) }
 {
     loop {
         match session.fetch(arena) {
@@ -88,7 +90,8 @@ pub fn find_outlet<H: Host + Drop>(
     class: i32,
     into: &mut [u8],
 ) -> Result<Option<usize>, Fault>
-    ensures { OutletDue (opening false (length arena.old) (H.Host.meaning host).carries [] (H.Host.meaning host).columns) (length arena.old) class (H.Host.meaning host).coming into.old result into.new }
+    ensures found { OutletDue (opening false (length arena.old) (H.Host.meaning host).carries [] (H.Host.meaning host).columns) (length arena.old) class (H.Host.meaning host).coming into.old result into.new }
+    ensures small { IfOk result (λ found. IfSome found (λ n. n < 2 ^ 63)) }
 {
     let mut session = Session::new(host);
     match session.open(arena, &[]) {

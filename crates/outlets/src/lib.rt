@@ -3,8 +3,10 @@
 
 mod count;
 mod find;
+mod recorded;
 mod size;
 
 pub use count::{RowCounts, count_rows};
 pub use find::{CLASS, OUTLET, find_outlet};
+pub use recorded::{count_recorded, find_recorded};
 pub use size::{TapeSize, tape_size};

@@ -67,8 +67,8 @@ loop-session-smaller-else-is_of_class g c =
     let w = row_came pairs n m m' s' a' c.fetch.result step (c.in-Ok-Row.is ∙ ap Ok c.in-Ok-Row.field-0-is) in
     shorter m.coming (Rattle.host.specs.Meanings.row w.is) w.rest m'.coming w.next w.left
 
-pub returns-in-Ok-End : goal.returns-in-Ok-End
-returns-in-Ok-End g c =
+pub returns-in-Ok-End-clause-found : goal.returns-in-Ok-End-clause-found
+returns-in-Ok-End-clause-found g c =
     let s = c.loop-session.session in let s' = c.fetch.new.self in
     let m = g.H.Host.meaning s.host in let m' = g.H.Host.meaning s'.host in
     let a = c.loop-session.arena in let a' = c.fetch.new.arena in
@@ -83,8 +83,8 @@ returns-in-Ok-End g c =
     subst (λ (k : ℤ). OutletIn pairs n k coming c.args.into.now (Ok None) c.loop-session.into) (to_z-of_z w32 c.args.class c.ranges.class)
     (not_found pairs n class coming c.args.into.now m m' s s' a a' c.loop-session.into c.loop-session.invariant c.fetch.result step (c.in-Ok-End.is ∙ ap Ok c.in-Ok-End.field-0-is))
 
-pub returns-then-is_of_class : goal.returns-then-is_of_class
-returns-then-is_of_class g c =
+pub returns-then-is_of_class-clause-found : goal.returns-then-is_of_class-clause-found
+returns-then-is_of_class-clause-found g c =
     let s = c.loop-session.session in let s' = c.fetch.new.self in
     let m = g.H.Host.meaning s.host in let m' = g.H.Host.meaning s'.host in
     let a = c.loop-session.arena in let a' = c.fetch.new.arena in
@@ -97,10 +97,10 @@ returns-then-is_of_class g c =
     let class = to_z w32 (of_z w32 c.args.class) in
     let coming = (g.H.Host.meaning c.args.session.now.host).coming in
     subst (λ (k : ℤ). OutletIn pairs n k coming c.args.into.now (Ok (Some c.in_ok-copy_outlet-in-Ok-Row.field-0)) c.copy_outlet.new.into) (to_z-of_z w32 c.args.class c.ranges.class)
-    (found pairs n class coming c.args.into.now m m' s s' a a' c.loop-session.into c.loop-session.invariant c.fetch.result step (c.in-Ok-Row.is ∙ ap Ok c.in-Ok-Row.field-0-is) (c.is_of_class.ensures.yes c.if-is_of_class.true) c.copy_outlet.result (Ok (Some c.in_ok-copy_outlet-in-Ok-Row.field-0)) c.copy_outlet.new.into (sym (ap some_if c.in_ok-copy_outlet-in-Ok-Row.was)) c.copy_outlet.ensures)
+    (found pairs n class coming c.args.into.now m m' s s' a a' c.loop-session.into c.loop-session.invariant c.fetch.result step (c.in-Ok-Row.is ∙ ap Ok c.in-Ok-Row.field-0-is) (c.is_of_class.ensures.yes c.if-is_of_class.true) c.copy_outlet.result (Ok (Some c.in_ok-copy_outlet-in-Ok-Row.field-0)) c.copy_outlet.new.into (sym (ap some_if c.in_ok-copy_outlet-in-Ok-Row.was)) c.copy_outlet.ensures.copied)
 
-pub returns-in_err-copy_outlet-in-Ok-Row : goal.returns-in_err-copy_outlet-in-Ok-Row
-returns-in_err-copy_outlet-in-Ok-Row g c =
+pub returns-in_err-copy_outlet-in-Ok-Row-clause-found : goal.returns-in_err-copy_outlet-in-Ok-Row-clause-found
+returns-in_err-copy_outlet-in-Ok-Row-clause-found g c =
     let s = c.loop-session.session in let s' = c.fetch.new.self in
     let m = g.H.Host.meaning s.host in let m' = g.H.Host.meaning s'.host in
     let a = c.loop-session.arena in let a' = c.fetch.new.arena in
@@ -113,7 +113,7 @@ returns-in_err-copy_outlet-in-Ok-Row g c =
     let class = to_z w32 (of_z w32 c.args.class) in
     let coming = (g.H.Host.meaning c.args.session.now.host).coming in
     subst (λ (k : ℤ). OutletIn pairs n k coming c.args.into.now c.from_residual.result c.copy_outlet.new.into) (to_z-of_z w32 c.args.class c.ranges.class)
-    (found pairs n class coming c.args.into.now m m' s s' a a' c.loop-session.into c.loop-session.invariant c.fetch.result step (c.in-Ok-Row.is ∙ ap Ok c.in-Ok-Row.field-0-is) (c.is_of_class.ensures.yes c.if-is_of_class.true) c.copy_outlet.result c.from_residual.result c.copy_outlet.new.into (let r = err_from_is_err_and c.from_residual.result c.from_residual.ensures.1 in r.1 ∙ ap Err r.2 ∙ sym (ap some_if c.in_err-copy_outlet-in-Ok-Row.was)) c.copy_outlet.ensures)
+    (found pairs n class coming c.args.into.now m m' s s' a a' c.loop-session.into c.loop-session.invariant c.fetch.result step (c.in-Ok-Row.is ∙ ap Ok c.in-Ok-Row.field-0-is) (c.is_of_class.ensures.yes c.if-is_of_class.true) c.copy_outlet.result c.from_residual.result c.copy_outlet.new.into (let r = err_from_is_err_and c.from_residual.result c.from_residual.ensures.1 in r.1 ∙ ap Err r.2 ∙ sym (ap some_if c.in_err-copy_outlet-in-Ok-Row.was)) c.copy_outlet.ensures.copied)
 
 pub is_of_class-requires-clause-ready : goal.is_of_class-requires-clause-ready
 is_of_class-requires-clause-ready g c =
