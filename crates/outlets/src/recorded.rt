@@ -26,3 +26,30 @@ pub fn find_recorded(
 {
     find_outlet(Tape::new(tape)?, arena, class, into)
 }
+
+#[cfg(test)]
+mod tests {
+    use super::*;
+    use crate::size::tape_size;
+    use std::test::Fail;
+
+    // A class and its outlet, of three rows. The second lost a figure of its class, beside an outlet for which the places have to grow.
+    const TAPE: &[u8] = b"\x02\0\x03\0\x03\0\0\0\0\xfd\0\0\0\0\
+        \0\x01\x04\0\0\0\x05\0\0\0\x01\x05\0\0\0Shops\
+        \0\x02\x04\0\0\0\x06\0\0\0\x01\x0d\0\0\0Juice press 2\
+        \0\x01\x04\0\0\0\x07\0\0\0\x01\x06\0\0\0Export";
+
+    #[test]
+    fn class_after_a_refused_row_has_its_own_outlet(rt: HostRuntime) -> Result<(), Fail> {
+        let size = tape_size(TAPE)?;
+        assert_eq!(rt; (size.columns, size.events), (2, 3));
+        let mut arena = [0; 32];
+        let mut outlet = *b"--------";
+        assert_eq!(rt; find_recorded(TAPE, &mut arena, 7, &mut outlet)?, Some(6));
+        assert_eq!(rt; outlet, *b"Export--");
+        assert_eq!(rt; find_recorded(TAPE, &mut arena, 6, &mut outlet)?, None);
+        let counts = count_recorded(TAPE, &mut arena)?;
+        assert_eq!(rt; (counts.shown, counts.refused, counts.failures), (2, 1, 0));
+        Ok(())
+    }
+}
