@@ -4,8 +4,8 @@
  * (docs/session.md). No function here allocates, keeps a pointer, or writes outside the memory that it is handed.
  *
  * What a caller owes, since no proof reaches it: each pointer is not null, also where the length is 0, and points to as many bytes as are said,
- * all of them initialised, at least until the call returns; the memory of an arena, of a buffer and of a struct overlaps nothing else that is handed to the same
- * call; and a length is below 2^63.
+ * all of them initialised; lengths are below 2^63; and the memory of an arena, of a buffer or of a struct overlaps nothing else that is handed
+ * to the same call, and is not used by another thread meanwhile.
  *
  * A refusal is answered as minus its number (docs/refusals.md): -23 where the bytes are no tape, -3 for an arena of more than 65536 bytes, -7, -8
  * and -9 where the result cannot be opened, and from outlets_find also those of reading an outlet. */
