@@ -1,0 +1,4 @@
+pub mod Sizes
+pub mod Events
+pub mod Outlets
+pub mod Recorded
