@@ -133,7 +133,7 @@ fn another_arena(rt: HostRuntime) -> Result<(), Fail> {
     );
     assert!(rt;
         session
-            .read_as::<i32>(&arena[..7], 0)
+            .read_as::<i32>(&other, 0)
             .is_err_and(|fault| fault.number() == 3)
     );
     assert!(rt; other == [7; 9] && arena == *b"hello\x07\x07\x07");

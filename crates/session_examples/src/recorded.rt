@@ -20,20 +20,30 @@ pub(crate) fn tape_of(
     columns: &[(u8, u32)],
     events: &[Event],
 ) -> Result<Vec<u8>, AllocError> {
-    let mut bytes = Vec::new(heap);
-    bytes.extend_from_slice(&(columns.len() as u64).to_le_bytes()[..2])?;
-    bytes.extend_from_slice(&(events.len() as u64).to_le_bytes()[..2])?;
-    for (code, flags) in columns {
-        bytes.push(*code)?;
-        bytes.extend_from_slice(&flags.to_le_bytes())?;
-    }
+    let mut bytes = head_of(heap, columns, events.len())?;
     for event in events {
         push_event(&mut bytes, *event)?;
     }
     Ok(bytes)
 }
 
-fn push_event(bytes: &mut Vec<u8>, event: Event) -> Result<(), AllocError> {
+// A tape's bytes up to its events.
+pub(crate) fn head_of(
+    heap: Global,
+    columns: &[(u8, u32)],
+    events: usize,
+) -> Result<Vec<u8>, AllocError> {
+    let mut bytes = Vec::new(heap);
+    bytes.extend_from_slice(&(columns.len() as u64).to_le_bytes()[..2])?;
+    bytes.extend_from_slice(&(events as u64).to_le_bytes()[..2])?;
+    for (code, flags) in columns {
+        bytes.push(*code)?;
+        bytes.extend_from_slice(&flags.to_le_bytes())?;
+    }
+    Ok(bytes)
+}
+
+pub(crate) fn push_event(bytes: &mut Vec<u8>, event: Event) -> Result<(), AllocError> {
     match event {
         Event::Row(fields) => {
             bytes.push(0)?;

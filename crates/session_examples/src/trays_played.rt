@@ -2,11 +2,11 @@
 use crate::exchange::Due::{Bytes, End, Failed, Null, Opened, Refused, Row};
 use crate::exchange::{asked, first_wrong};
 use crate::recorded::Field::{Held, Null as NullField};
-use crate::recorded::{Event, tape_of};
+use crate::recorded::{Event, head_of, push_event};
 use mysql::MysqlType;
 use play::Call::{Fetch, Open, Read, ReadInteger};
 use play::{PlayedBoth, play_both};
-use rows::Fetch as fetched;
+use rows::Fetch as Fetched;
 use session::Session;
 use std::alloc::{AllocError, Global};
 use std::test::Fail;
@@ -30,7 +30,7 @@ fn two_hundred_rows(rt: HostRuntime) -> Result<(), Fail> {
     for k in 1..201usize {
         let bytes = row_of(rt.alloc(), k).expect(&rt, "memory");
         assert!(rt;
-            matches!(session.fetch(&mut arena), Ok(fetched::Row)),
+            matches!(session.fetch(&mut arena), Ok(Fetched::Row)),
             "row {k}"
         );
         let shown = session.read(&arena, 0).expect(&rt, "a reading");
@@ -41,26 +41,27 @@ fn two_hundred_rows(rt: HostRuntime) -> Result<(), Fail> {
         assert!(rt; is_as_made, "row {k}");
     }
     assert!(rt;
-        matches!(session.fetch(&mut arena), Ok(fetched::End)),
+        matches!(session.fetch(&mut arena), Ok(Fetched::End)),
         "there is no row 201"
     );
     let _tray = session.close(Some(slip));
     Ok(())
 }
 
+// A tape of one text column: a row, a failure, a row with this text, and a null.
+fn tape_with(heap: Global, text: &[u8]) -> Result<Vec<u8>, AllocError> {
+    let mut bytes = head_of(heap, &[(253, 0)], 4)?;
+    push_event(&mut bytes, Event::Row(&[Held(b"a row of its own")]))?;
+    push_event(&mut bytes, Event::Failure(2013))?;
+    push_event(&mut bytes, Event::Row(&[Held(text)]))?;
+    push_event(&mut bytes, Event::Row(&[NullField]))?;
+    Ok(bytes)
+}
+
 #[test]
 fn answers_alike(rt: HostRuntime) -> Result<(), Fail> {
     let alike = row_of(rt.alloc(), 2)?;
-    let bytes = tape_of(
-        rt.alloc(),
-        &[(253, 0)],
-        &[
-            Event::Row(&[Held(b"a row of its own")]),
-            Event::Failure(2013),
-            Event::Row(&[Held(&alike)]),
-            Event::Row(&[NullField]),
-        ],
-    )?;
+    let bytes = tape_with(rt.alloc(), &alike)?;
     let of_tape = [
         (Open(&[]), Opened),
         (Fetch, Row),

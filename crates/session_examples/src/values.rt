@@ -5,6 +5,7 @@ use crate::recorded::Field::{Held, Null as NullField};
 use crate::recorded::{Event, tape_of};
 use mysql::MysqlType;
 use play::Call::{Fetch, Open, Read, ReadBigInt, ReadInteger, ReadTime};
+use std::alloc::{AllocError, Global};
 use std::test::Fail;
 use tape_host::Tape;
 
@@ -100,21 +101,25 @@ fn numbers(rt: HostRuntime) -> Result<(), Fail> {
     Ok(())
 }
 
+// A time of the year 2026, with this as its sign.
+fn time_of(sign: u8) -> [u8; 48] {
+    let mut time = [0; 48];
+    time[0] = 0xea;
+    time[1] = 7;
+    time[32] = sign;
+    time
+}
+
+// A tape of a row with three times.
+fn tape_of_times(heap: Global, times: &[[u8; 48]; 3]) -> Result<Vec<u8>, AllocError> {
+    let fields = [Held(&times[0]), Held(&times[1]), Held(&times[2])];
+    tape_of(heap, &[(7, 0), (11, 0), (12, 0)], &[Event::Row(&fields)])
+}
+
 #[test]
 fn times(rt: HostRuntime) -> Result<(), Fail> {
-    let mut moment = [0u8; 48];
-    moment[0] = 0xea;
-    moment[1] = 7;
-    let mut negative = moment;
-    negative[32] = 1;
-    let mut strange = moment;
-    strange[32] = 2;
-    let columns = [(7, 0), (11, 0), (12, 0)];
-    let tape = tape_of(
-        rt.alloc(),
-        &columns,
-        &[Event::Row(&[Held(&moment), Held(&negative), Held(&strange)])],
-    )?;
+    let times = [time_of(0), time_of(1), time_of(2)];
+    let tape = tape_of_times(rt.alloc(), &times)?;
     let calls = [
         (Open(&[]), Opened),
         (Fetch, Row),
@@ -122,7 +127,7 @@ fn times(rt: HostRuntime) -> Result<(), Fail> {
         (ReadTime(1), Refused(17, 1)),
         (ReadTime(2), Refused(16, 2)),
         (ReadInteger(0), Refused(14, 0)),
-        (Read(1), Bytes(MysqlType::Time, &negative)),
+        (Read(1), Bytes(MysqlType::Time, &times[1])),
     ];
     assert_eq!(rt;
         first_other(rt.alloc(), Tape::new(&tape)?, 144, &calls)?,
