@@ -1,4 +1,5 @@
 // Sessions over hosts in other states than new ones, and what closing leaves of a host.
+use crate::exchange::is_refused;
 use crate::recorded::Field::Held;
 use crate::recorded::{Event, tape_of};
 use host::{BindRecord, Host, Report};
@@ -34,11 +35,7 @@ fn closing(rt: HostRuntime) -> Result<(), Fail> {
     let mut first = Session::new(used);
     let second = Session::new(used);
     let slip = first.open(&mut arena, &[]).expect(&rt, "an opening");
-    assert!(rt;
-        first
-            .read(&arena, 0)
-            .is_err_and(|fault| fault.number() == 5)
-    );
+    assert!(rt; is_refused(first.read(&arena, 0), 5));
     assert!(rt;
         matches!(first.fetch(&mut arena), Ok(Fetch::Row)),
         "the second row"

@@ -49,6 +49,11 @@ pub(crate) fn is_fault_due(fault: Fault, due: Due) -> bool {
     }
 }
 
+// Whether a call of a session was refused with this number.
+pub(crate) fn is_refused<T: Drop>(answer: Result<T, Fault>, number: u8) -> bool {
+    matches!(answer, Err(fault) if fault.number() == number)
+}
+
 // The calls alone.
 pub(crate) fn asked<'a>(
     heap: Global,

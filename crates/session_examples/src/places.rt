@@ -1,5 +1,6 @@
 // Where the columns of a session lie, and how their places grow: a place that is too short gets the value's length and the others keep theirs; where
 // that is too much for the arena, each text gets what the need counts.
+use crate::exchange::is_refused;
 use crate::recorded::Field::{Held, Lost, Null};
 use crate::recorded::{Event, tape_of};
 use rows::Fetch;
@@ -56,11 +57,7 @@ fn places_grow(rt: HostRuntime) -> Result<(), Fail> {
         );
         assert_eq!(rt; places_of(&session), Some(*places), "row {row}");
     }
-    assert!(rt;
-        session
-            .fetch(&mut arena)
-            .is_err_and(|fault| fault.number() == 11)
-    );
+    assert!(rt; is_refused(session.fetch(&mut arena), 11));
     assert_eq!(rt; places_of(&session), Some([(4, 1), (5, 15)]));
     let _tape = session.close(Some(slip));
     Ok(())
@@ -100,6 +97,10 @@ fn marks(rt: HostRuntime) -> Result<(), Fail> {
             !text.is_null && size.code == 2 && size.flags == 32,
             "line {i}"
         );
+        assert!(rt;
+            arena.iter().skip(7).all(|byte| *byte == 7),
+            "line {i}: past the places"
+        );
         let _ = session.fetch(&mut arena);
     }
     let _tape = session.close(Some(slip));
@@ -116,26 +117,10 @@ fn another_arena(rt: HostRuntime) -> Result<(), Fail> {
     let mut session = Session::new(Tape::new(&tape)?);
     let slip = session.open(&mut arena, &[]).expect(&rt, "an opening");
     assert!(rt; matches!(session.fetch(&mut arena), Ok(Fetch::Row)));
-    assert!(rt;
-        session
-            .fetch(&mut other)
-            .is_err_and(|fault| fault.number() == 3)
-    );
-    assert!(rt;
-        session
-            .read(&other, 0)
-            .is_err_and(|fault| fault.number() == 3)
-    );
-    assert!(rt;
-        session
-            .read(&other, 1)
-            .is_err_and(|fault| fault.number() == 3)
-    );
-    assert!(rt;
-        session
-            .read_as::<i32>(&other, 0)
-            .is_err_and(|fault| fault.number() == 3)
-    );
+    assert!(rt; is_refused(session.fetch(&mut other), 3));
+    assert!(rt; is_refused(session.read(&other, 0), 3));
+    assert!(rt; is_refused(session.read(&other, 1), 3));
+    assert!(rt; is_refused(session.read_as::<i32>(&other, 0), 3));
     assert!(rt; other == [7; 9] && arena == *b"hello\x07\x07\x07");
     match session.read(&arena, 0) {
         Ok(Some(shown)) => assert!(rt; shown.value().as_bytes() == b"hello".as_slice()),

@@ -74,6 +74,50 @@ fn two_texts_in_ten_bytes(rt: HostRuntime) -> Result<(), Fail> {
     Ok(())
 }
 
+// Three texts in fourteen bytes: two go right, two go left, one goes right and one left, one left and one right, and one goes left behind a null.
+#[test]
+fn texts_that_move(rt: HostRuntime) -> Result<(), Fail> {
+    let tape = tape_of(
+        rt.alloc(),
+        &[(253, 0), (253, 0), (253, 0)],
+        &[
+            Event::Row(&[Held(b"a"), Held(b"eightlet"), Held(b"four")]),
+            Event::Row(&[Held(b"bc"), Held(b"EIGHTLET"), Held(b"FOUR")]),
+            Event::Row(&[Held(b"d"), Held(b"8letters"), Held(b"fives")]),
+            Event::Row(&[Held(b"ef"), Held(b"4444"), Held(b"8LETTERS")]),
+            Event::Row(&[Held(b"g"), Held(b"7seven7"), Held(b"6SIXES")]),
+            Event::Row(&[Held(b"h"), NullField, Held(b"twelve bytes")]),
+        ],
+    )?;
+    let calls = [
+        (Open(&[]), Opened),
+        (Fetch, Row),
+        (Fetch, Row),
+        (Read(0), Bytes(TEXT, b"bc")),
+        (Read(1), Bytes(TEXT, b"EIGHTLET")),
+        (Read(2), Bytes(TEXT, b"FOUR")),
+        (Fetch, Row),
+        (Read(1), Bytes(TEXT, b"8letters")),
+        (Read(2), Bytes(TEXT, b"fives")),
+        (Fetch, Row),
+        (Read(0), Bytes(TEXT, b"ef")),
+        (Read(1), Bytes(TEXT, b"4444")),
+        (Read(2), Bytes(TEXT, b"8LETTERS")),
+        (Fetch, Row),
+        (Read(1), Bytes(TEXT, b"7seven7")),
+        (Read(2), Bytes(TEXT, b"6SIXES")),
+        (Fetch, Row),
+        (Read(0), Bytes(TEXT, b"h")),
+        (Read(1), Null),
+        (Read(2), Bytes(TEXT, b"twelve bytes")),
+    ];
+    assert_eq!(rt;
+        first_other(rt.alloc(), Tape::new(&tape)?, 14, &calls)?,
+        None
+    );
+    Ok(())
+}
+
 // Nulls, and a failure, between rows of long and short texts.
 #[test]
 fn nulls_and_failures_between_texts(rt: HostRuntime) -> Result<(), Fail> {
