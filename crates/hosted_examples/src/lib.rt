@@ -2,4 +2,6 @@
 #![tactic(auto)]
 
 #[cfg(test)]
+mod freed;
+#[cfg(test)]
 mod tapes_hosted;
