@@ -1,0 +1,19 @@
+-- Lines by kind.
+use Rattle.std.specs.Prelude.{Bool, true, false}
+use Rattle.class_list.specs.declared.lines.Line.{Line}
+use Rattle.class_list.specs.declared.lines.Line.TheVariants.{Row, RowRefused, Failed}
+
+abbrev pub is_row : Line → Bool
+is_row (Row r) = true
+is_row (RowRefused f) = false
+is_row (Failed f) = false
+
+abbrev pub is_refused : Line → Bool
+is_refused (Row r) = false
+is_refused (RowRefused f) = true
+is_refused (Failed f) = false
+
+abbrev pub is_failed : Line → Bool
+is_failed (Row r) = false
+is_failed (RowRefused f) = false
+is_failed (Failed f) = true

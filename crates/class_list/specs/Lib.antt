@@ -1,0 +1,4 @@
+pub mod Lines
+pub mod Kinds
+pub mod Told
+pub mod Loads

@@ -1,0 +1,21 @@
+-- The lines that a program holds, as lines of a class list.
+use Rattle.std.specs.Prelude.{ℕ, List, Some, None, Ok, Err, vec_items, Option, Result, Vec}
+use Rattle.std.specs.declared.alloc.Global.{Global}
+use Rattle.mysql.specs.declared.fault.Fault.{Fault}
+use Rattle.class_list.specs.declared.lines.ClassRow.{ClassRow}
+use Rattle.class_list.specs.declared.lines.Line as held
+use Rattle.class_list.specs.declared.lines.Line.TheVariants as line
+use Rattle.class_list.specs.Lines.{ReadRow, Line, row, refused_row, failed}
+
+abbrev pub told_outlet : Result (Option (Vec ℕ Global)) Fault → Result (Option (List ℕ)) Fault
+told_outlet (Ok (Some bytes)) = Ok (Some (vec_items bytes))
+told_outlet (Ok None) = Ok None
+told_outlet (Err f) = Err f
+
+abbrev pub told_row : ClassRow → ReadRow
+told_row r = record { class = r.class; outlet = told_outlet r.outlet; diameter = r.diameter }
+
+abbrev pub told : held.Line → Line
+told (line.Row r) = row (told_row r)
+told (line.RowRefused f) = refused_row f
+told (line.Failed f) = failed f
