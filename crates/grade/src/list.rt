@@ -15,8 +15,9 @@ pub fn print_list(
 ) -> Result<bool> {
     match loaded {
         Ok(lines) => {
+            let cells = all_cells(rt.alloc(), &lines)?;
             println!(rt; "{name}")?;
-            print_table(rt, &all_cells(rt.alloc(), &lines)?)?;
+            print_table(rt, &cells)?;
             let Counts {
                 rows,
                 partial,
