@@ -20,7 +20,8 @@ use Rattle.class_list.specs.declared.lines.Line.{Line as HeldLine}
 use Rattle.class_list.specs.declared.loading.LoadError.{LoadError}
 use Rattle.class_list.specs.Lines.{row, refused_row, read_of, row_line, line_of, lines_of}
 use Rattle.class_list.specs.Told.{told}
-use Rattle.class_list.specs.Loads.{refusal_line, IsGoing, Kept, Steps, row_due, ListsTo, LoadsTo, EndsWith}
+use Rattle.class_list.specs.Loads.{ListsTo, LoadsTo}
+use Rattle.class_list.specs.Steps.{refusal_line, IsGoing, Kept, Steps, row_due, EndsWith}
 
 -- what a row is refused with is no failure
 row_fault : (loss : Option ℕ) (over : Bool) (f : Fault) → dues.row_fetched loss over ≡ Err f → refusal_line f ≡ refused_row f

@@ -2,3 +2,4 @@ pub mod Lines
 pub mod Kinds
 pub mod Told
 pub mod Loads
+pub mod Steps

@@ -3,7 +3,8 @@ ghost use Rattle.std.specs.Prelude.{◌≡◌, length, IfOk};
 ghost use Rattle.host.specs.Calls.{freed};
 ghost use Rattle.class_list.specs.declared.loading.LoadError.TheVariants.{OutOfMemory};
 ghost use Rattle.class_list.specs.Told.{told_outlet, told_row, told};
-ghost use Rattle.class_list.specs.Loads.{refusal_line, IsGoing, outlet_due, row_due, StepsTo, Kept, EndsWith, LoadsTo, LeavesArena};
+ghost use Rattle.class_list.specs.Loads.{LoadsTo, LeavesArena};
+ghost use Rattle.class_list.specs.Steps.{refusal_line, IsGoing, outlet_due, row_due, StepsTo, Kept, EndsWith};
 
 use crate::lines::{CLASS, COLUMNS, ClassRow, DIAMETER, Line, OUTLET};
 use host::Host;

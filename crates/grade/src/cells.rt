@@ -36,16 +36,16 @@ impl Cells {
         let mut remarks = String::new(heap);
         let class = match row.class {
             Ok(class) => format!(in heap; "{class}")?,
-            Err(fault) => refused(&mut remarks, "class", fault)?,
+            Err(fault) => refused(heap, &mut remarks, "class", fault)?,
         };
         let outlet = match &row.outlet {
             Ok(Some(bytes)) => text(heap, bytes)?,
             Ok(None) => String::from_str(heap, NULL)?,
-            Err(fault) => refused(&mut remarks, "outlet", *fault)?,
+            Err(fault) => refused(heap, &mut remarks, "outlet", *fault)?,
         };
         let diameter = match row.diameter {
             Ok(tenths) => format!(in heap; "{}", Tenths(tenths))?,
-            Err(fault) => refused(&mut remarks, "diameter", fault)?,
+            Err(fault) => refused(heap, &mut remarks, "diameter", fault)?,
         };
         Ok(Cells {
             class,
@@ -67,12 +67,17 @@ impl Cells {
 }
 
 // Remarks that a value was refused, and gives what stands for it.
-fn refused(remarks: &mut String, what: &str, fault: Fault) -> Result<String, AllocError> {
+fn refused(
+    heap: Global,
+    remarks: &mut String,
+    what: &str,
+    fault: Fault,
+) -> Result<String, AllocError> {
     if !remarks.is_empty() {
         remarks.push_str("; ")?;
     }
     write!(remarks, "{what} not read: {}", InWords(fault))?;
-    String::from_str(*remarks.allocator(), REFUSED)
+    String::from_str(heap, REFUSED)
 }
 
 // Bytes as text where they are printable text, else in hexadecimal.

@@ -2,7 +2,7 @@
 use crate::cells::Cells;
 use crate::table::print_table;
 use anyhow::Result;
-use class_list::{Line, LoadError, count};
+use class_list::{Counts, Line, LoadError, count};
 use std::alloc::{AllocError, Global};
 use std::fmt;
 use words::InWords;
@@ -15,11 +15,17 @@ pub fn print_list(
 ) -> Result<bool> {
     match loaded {
         Ok(lines) => {
+            let cells = all_cells(rt.alloc(), &lines)?;
             println!(rt; "{name}")?;
-            print_table(rt, &all_cells(rt.alloc(), &lines)?)?;
-            let counts = count(&lines);
-            let (shown, refused, failures) = (counts.rows, counts.refused, counts.failures);
-            println!(rt; "  rows shown: {shown}, rows refused: {refused}, failures: {failures}")?;
+            print_table(rt, &cells)?;
+            let Counts {
+                rows,
+                partial,
+                refused,
+                failures,
+            } = count(&lines);
+            print!(rt; "  rows shown: {rows} (with a value not read: {partial}), ")?;
+            println!(rt; "rows refused: {refused}, failures: {failures}")?;
             Ok(true)
         }
         Err(error) => {
