@@ -24,4 +24,4 @@ pub mod data_types {
 #[cfg(not(feature = "real"))]
 pub use crate::mysql::drive;
 #[cfg(feature = "real")]
-pub use crate::mysql::over_library;
+pub use crate::mysql::{measure, over_library};

@@ -11,5 +11,5 @@ pub use self::backend::{Mysql, MysqlType};
 #[cfg(not(feature = "real"))]
 pub use self::connection::drive;
 #[cfg(feature = "real")]
-pub use self::connection::over_library;
+pub use self::connection::{measure, over_library};
 pub use self::value::{MysqlValue, NumericRepresentation};

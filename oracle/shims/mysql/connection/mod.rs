@@ -6,6 +6,8 @@ mod bind;
 #[cfg(not(feature = "real"))]
 pub mod drive;
 #[cfg(feature = "real")]
+pub mod measure;
+#[cfg(feature = "real")]
 pub mod over_library;
 mod raw;
 mod stmt;

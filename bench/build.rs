@@ -1,0 +1,10 @@
+//! Links the library of this port.
+
+use std::path::Path;
+
+fn main() {
+    let folder = Path::new(&std::env::var("CARGO_MANIFEST_DIR").unwrap()).join("../crates/outlets_c/out");
+    println!("cargo:rustc-link-search=native={}", folder.display());
+    println!("cargo:rustc-link-lib=static=outlets_c");
+    println!("cargo:rerun-if-changed={}", folder.join("liboutlets_c.a").display());
+}

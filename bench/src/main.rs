@@ -1,0 +1,146 @@
+//! Measures this port and the original's files on the same tapes, by turns, and prints what a row takes in each (docs/bench.md).
+
+mod library;
+mod port;
+mod tapes;
+
+use oracle::measure;
+use std::process::ExitCode;
+use tapes::Workload;
+
+const USAGE: &str = "bench times REPETITIONS           a table of times
+bench names                       the tasks and the workloads, a line each
+bench once TASK WORKLOAD          one task of one workload, to be watched from outside; prints how many rows that has, or nothing where
+                                  the workload has no number to be read";
+
+/// A number that no row has in column 0.
+const ABSENT: i32 = -1;
+
+/// A measurement goes through a tape until so many rows have come.
+const ROWS: usize = 60_000;
+
+type Task = fn(&Workload, &mut [u8]);
+
+/// What is done with a tape, and by which side. The last two are what lies below a session.
+const TASKS: [(&str, Task); 6] = [
+    ("port-fetch", |w, arena| assert_eq!(port::count(&w.tape, arena).shown as usize, w.rows)),
+    ("original-fetch", |w, _| assert_eq!(original(w, measure::count).shown as usize, w.rows)),
+    ("port-read", |w, arena| assert!(port::lacks_class(&w.tape, arena, ABSENT))),
+    ("original-read", |w, _| assert_eq!(original(w, || measure::count_class(ABSENT)).1, 0)),
+    ("port-walks", |w, _| assert_eq!(port::events(&w.tape), w.rows)),
+    ("original-library", |w, _| assert_eq!(library::alone(&w.tape, 2_048) as usize, w.rows)),
+];
+
+impl Workload {
+    /// Whether a task is for this workload.
+    fn has(&self, task: &str) -> bool {
+        self.is_read || !task.ends_with("read")
+    }
+}
+
+fn original<T>(workload: &Workload, ask: impl FnOnce() -> T) -> T {
+    unsafe { library::hand_in(&workload.tape) };
+    ask()
+}
+
+/// What is watched: no more than the task.
+#[inline(never)]
+fn watched(task: Task, workload: &Workload, arena: &mut [u8]) {
+    task(workload, arena);
+}
+
+/// Nanoseconds of this thread on a processor so far.
+fn now() -> i64 {
+    extern "C" {
+        fn clock_gettime(clock: i32, time: *mut [i64; 2]) -> i32;
+    }
+    const THREAD: i32 = 3;
+    let mut time = [0; 2];
+    assert_eq!(unsafe { clock_gettime(THREAD, &mut time) }, 0);
+    time[0] * 1_000_000_000 + time[1]
+}
+
+/// Nanoseconds a row.
+fn time(task: Task, workload: &Workload, arena: &mut [u8]) -> f64 {
+    let times = ROWS.div_ceil(workload.rows);
+    let start = now();
+    for _ in 0..times {
+        watched(task, workload, arena);
+    }
+    (now() - start) as f64 / (times * workload.rows) as f64
+}
+
+fn median(times: &mut [f64]) -> f64 {
+    times.sort_by(f64::total_cmp);
+    times[times.len() / 2]
+}
+
+/// The middle time of each task of a workload. All are done by turns, so that what else the machine does falls on all alike.
+fn times(workload: &Workload, repetitions: usize) -> [f64; 6] {
+    let mut arena = vec![0; workload.arena];
+    let mut times: [Vec<f64>; 6] = Default::default();
+    // the first turn is for warmth
+    for turn in 0..=repetitions {
+        for ((name, task), times) in TASKS.iter().zip(&mut times) {
+            if workload.has(name) {
+                let one = time(*task, workload, &mut arena);
+                if turn > 0 {
+                    times.push(one);
+                }
+            }
+        }
+    }
+    times.map(|mut times| if times.is_empty() { f64::NAN } else { median(&mut times) })
+}
+
+fn table(repetitions: usize) {
+    println!("nanoseconds a row, the middle of {repetitions}\n");
+    println!("{:20}{:>7} |{:^25}|{:^25}|{:^18}", "", "", "fetched to the end", "and column 0 read", "below a session");
+    let pair = "port  original  ratio";
+    println!("{:20}{:>7} | {pair:>23} | {pair:>23} | {:>16}", "workload", "rows", "walks   library");
+    for (name, make) in tapes::ALL {
+        let workload = make();
+        let [port, original, port_read, original_read, walks, library] = times(&workload, repetitions);
+        print!("{name:20}{:>7} | {port:6.0} {original:9.0} {:6.2} | ", workload.rows, port / original);
+        match workload.is_read {
+            true => print!("{port_read:6.0} {original_read:9.0} {:6.2}", port_read / original_read),
+            false => print!("{:23}", ""),
+        }
+        println!(" | {walks:6.0} {library:9.0}");
+    }
+}
+
+fn main() -> ExitCode {
+    let words: Vec<String> = std::env::args().skip(1).collect();
+    let words: Vec<&str> = words.iter().map(String::as_str).collect();
+    match words.as_slice() {
+        ["times", repetitions] => match repetitions.parse() {
+            Ok(repetitions) if repetitions > 0 => table(repetitions),
+            _ => return usage(),
+        },
+        ["names"] => {
+            TASKS.iter().for_each(|(name, _)| println!("task {name}"));
+            tapes::ALL.iter().for_each(|(name, _)| println!("workload {name}"));
+        }
+        ["once", task, name] => {
+            let task = TASKS.iter().find(|(other, _)| other == task);
+            let make = tapes::ALL.iter().find(|(other, _)| other == name);
+            let (Some(task), Some((_, make))) = (task, make) else {
+                return usage();
+            };
+            let workload = make();
+            if !workload.has(task.0) {
+                return ExitCode::SUCCESS;
+            }
+            watched(task.1, &workload, &mut vec![0; workload.arena]);
+            println!("{}", workload.rows);
+        }
+        _ => return usage(),
+    }
+    ExitCode::SUCCESS
+}
+
+fn usage() -> ExitCode {
+    eprintln!("{USAGE}");
+    ExitCode::FAILURE
+}
