@@ -1,0 +1,68 @@
+// Lines, compared one by one.
+use answers::Port;
+use recorded::{Buffers, Kind, Unread, Words};
+use std::alloc::{AllocError, Global};
+
+// What came of a line that could be read.
+#[derive(Clone, Copy)]
+pub enum Compared<'a> {
+    Comment,
+    Same(Kind),
+    // The port answers otherwise; the answer has a space before it.
+    Different {
+        kind: Kind,
+        line: &'a str,
+        answer: &'a str,
+    },
+}
+
+// What is kept from line to line.
+#[derive(Drop)]
+pub struct Comparer {
+    buffers: Buffers,
+    port: Port,
+}
+
+// A line without its end.
+fn text_of(line: &[u8]) -> Result<&str, Unread> {
+    match line {
+        [text @ .., b'\n'] => std::str::from_utf8(text).map_err(|_| Unread::NotUtf8),
+        _ => Err(Unread::CutShort),
+    }
+}
+
+// Whether an answer, with a space before it, is the recorded one.
+fn is_same(recorded: &str, answer: &[u8]) -> bool {
+    match answer {
+        [b' ', answer @ ..] => *answer == *recorded.as_bytes(),
+        _ => false,
+    }
+}
+
+impl Comparer {
+    pub fn new(heap: Global) -> Result<Comparer, AllocError> {
+        Ok(Comparer {
+            buffers: Buffers::new(heap),
+            port: Port::new(heap)?,
+        })
+    }
+
+    // Compares a line with what the port answers.
+    pub fn compare<'a>(&'a mut self, line: &'a [u8]) -> Result<Compared<'a>, Unread> {
+        let line = text_of(line)?;
+        if line.starts_with('#') {
+            return Ok(Compared::Comment);
+        }
+        let mut words = Words::new(line);
+        let kind = Kind::of_word(words.word()?).ok_or(Unread::UnknownKind)?;
+        let question = self.buffers.question(kind, &mut words)?;
+        let recorded = words.rest()?;
+        let answer = self.port.answer(question)?;
+        if is_same(recorded, answer) {
+            return Ok(Compared::Same(kind));
+        }
+        // What the port answers is ASCII.
+        let answer = std::str::from_utf8(answer).unwrap_or("?");
+        Ok(Compared::Different { kind, line, answer })
+    }
+}
