@@ -6,7 +6,7 @@ use recorded::Question;
 use std::alloc::{AllocError, Global};
 use tape_host::Tape;
 use tray::Tray;
-use walk::walk;
+use walk::{Watch, walk};
 
 // How long the arena is that results are opened over.
 const ARENA: usize = 65_536;
@@ -34,6 +34,7 @@ impl Port {
             Question::Type(code, flags) => self.text.tpe(code, flags)?,
             Question::Size(code) => self.text.size(code)?,
             Question::Kept(tpe, code) => self.text.kept(tpe, code)?,
+            Question::Keeps(tpe) => self.text.keeps(tpe)?,
             Question::Flags(flags) => self.text.flags(flags)?,
             Question::Kind(number) => self.text.kind(number)?,
             Question::Int(tpe, bytes) => self.text.integer::<i32>(tpe, bytes)?,
@@ -57,13 +58,14 @@ impl Port {
     fn tray(&mut self, rows: u16, wanted: &[Option<MysqlType>]) -> Result<(), AllocError> {
         let mut sum = Sum::default();
         let _ = walk(Tray::new(rows), &mut self.arena, wanted, &mut sum);
-        match sum.refusal {
-            Some(fault) => self.text.refusal(fault),
-            None => {
-                self.text.number(sum.nulls)?;
-                self.text.number(sum.bytes)?;
-                self.text.number(sum.checksum)
-            }
+        if let Some(fault) = sum.unopened {
+            return self.text.unopened(fault);
         }
+        if let Some(fault) = sum.refusal {
+            return self.text.refusal(fault);
+        }
+        self.text.number(sum.nulls)?;
+        self.text.number(sum.bytes)?;
+        self.text.number(sum.checksum)
     }
 }

@@ -2,8 +2,13 @@
 use crate::text::Text;
 use itoa::Integer;
 use mysql::*;
-use readings::{FromSql, MysqlTime, MysqlValue};
+use readings::{FromSql, MysqlTime, MysqlValue, from_nullable_sql};
 use std::alloc::AllocError;
+
+// Bytes with their type, where there are any.
+fn value_of(tpe: MysqlType, bytes: Option<&[u8]>) -> Option<MysqlValue<'_>> {
+    bytes.map(|bytes| MysqlValue::new(bytes, tpe))
+}
 
 impl Text {
     // The pair that a type asks for.
@@ -35,6 +40,21 @@ impl Text {
         self.number(u8::from(is_kept(tpe, code)))
     }
 
+    // Which codes a type keeps: a bit each, the lowest of each byte first.
+    pub(crate) fn keeps(&mut self, tpe: MysqlType) -> Result<(), AllocError> {
+        self.part(b" ")?;
+        for byte in 0..32 {
+            let mut bits = 0;
+            for bit in 0..8 {
+                if is_kept(tpe, byte * 8 + bit) {
+                    bits |= 1 << bit;
+                }
+            }
+            self.hexadecimal(&[bits])?;
+        }
+        Ok(())
+    }
+
     // Whether flags are taken; `no` is refusal 7.
     pub(crate) fn flags(&mut self, flags: u32) -> Result<(), AllocError> {
         match known_flags(flags) {
@@ -54,17 +74,17 @@ impl Text {
     pub(crate) fn integer<T: FromSql + Integer>(
         &mut self,
         tpe: MysqlType,
-        bytes: &[u8],
+        bytes: Option<&[u8]>,
     ) -> Result<(), AllocError> {
-        match T::from_sql(&MysqlValue::new(bytes, tpe)) {
+        match from_nullable_sql::<T>(value_of(tpe, bytes)) {
             Ok(number) => self.number(number),
             Err(fault) => self.refusal(fault),
         }
     }
 
     // A value as a time.
-    pub(crate) fn time(&mut self, tpe: MysqlType, bytes: &[u8]) -> Result<(), AllocError> {
-        match MysqlTime::from_sql(&MysqlValue::new(bytes, tpe)) {
+    pub(crate) fn time(&mut self, tpe: MysqlType, bytes: Option<&[u8]>) -> Result<(), AllocError> {
+        match from_nullable_sql::<MysqlTime>(value_of(tpe, bytes)) {
             Ok(time) => self.fields(&time),
             Err(fault) => self.refusal(fault),
         }

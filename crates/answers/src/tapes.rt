@@ -1,15 +1,30 @@
 // Answers of a recorded result: its events.
 use crate::text::Text;
-use mysql::{Fault, Refusal};
+use mysql::{Fault, HostError, Refusal};
 use readings::MysqlValue;
 use std::alloc::AllocError;
 use walk::Watch;
+
+impl Text {
+    // What a host failed with.
+    fn failure(&mut self, failure: HostError) -> Result<(), AllocError> {
+        self.part(b":")?;
+        self.digits(failure.number)?;
+        self.part(b":")?;
+        self.digits(failure.kind as u8)
+    }
+}
 
 impl Watch for Text {
     type Error = AllocError;
 
     fn unopened(&mut self, fault: Fault) -> Result<(), AllocError> {
-        self.refusal(fault)
+        self.word(b"refused:")?;
+        self.digits(fault.number())?;
+        match fault.host_error() {
+            Some(failure) => self.failure(failure),
+            None => Ok(()),
+        }
     }
 
     fn row(&mut self) -> Result<(), AllocError> {
@@ -33,22 +48,18 @@ impl Watch for Text {
         }
     }
 
-    // After a lost figure nothing is compared.
-    fn refused(&mut self, fault: Fault) -> Result<bool, AllocError> {
+    fn refused(&mut self, fault: Fault) -> Result<(), AllocError> {
         match fault.host_error() {
             Some(failure) => {
-                self.word(b"fail:")?;
-                self.digits(failure.number)?;
-                self.part(b":")?;
-                self.digits(failure.kind as u8)?;
+                self.word(b"fail")?;
+                self.failure(failure)
             }
             None if fault.refusal() == Refusal::NumericOverflow => {
-                self.word(b"stop")?;
-                return Ok(false);
+                self.word(b"lost:")?;
+                self.digits(fault.column())
             }
-            None => self.refusal(fault)?,
+            None => self.refusal(fault),
         }
-        Ok(true)
     }
 
     fn end(&mut self) -> Result<(), AllocError> {

@@ -5,13 +5,15 @@ use recorded::checksum;
 use std::convert::Infallible;
 use walk::Watch;
 
-// What was shown so far, or the first refusal.
+// What was shown so far, and what was refused.
 #[derive(Clone, Copy, Default)]
 pub(crate) struct Sum {
     pub(crate) nulls: u64,
     pub(crate) bytes: u64,
     // of all bytes, in order
     pub(crate) checksum: u32,
+    // that of the opening, and the last of another call
+    pub(crate) unopened: Option<Fault>,
     pub(crate) refusal: Option<Fault>,
 }
 
@@ -19,7 +21,7 @@ impl Watch for Sum {
     type Error = Infallible;
 
     fn unopened(&mut self, fault: Fault) -> Result<(), Infallible> {
-        self.refusal = Some(fault);
+        self.unopened = Some(fault);
         Ok(())
     }
 
@@ -44,9 +46,9 @@ impl Watch for Sum {
         Ok(())
     }
 
-    fn refused(&mut self, fault: Fault) -> Result<bool, Infallible> {
+    fn refused(&mut self, fault: Fault) -> Result<(), Infallible> {
         self.refusal = Some(fault);
-        Ok(false)
+        Ok(())
     }
 
     fn end(&mut self) -> Result<(), Infallible> {

@@ -28,7 +28,5 @@ fn with_byte(crc: u32, byte: u8) -> u32
 pub fn checksum(crc: u32, bytes: &[u8]) -> u32
     ensures { result ≡ checksum crc bytes.now }
 {
-    !bytes
-        .iter()
-        .fold(!crc, |crc, byte| with_byte(crc, *byte))
+    !bytes.iter().fold(!crc, |crc, byte| with_byte(crc, *byte))
 }

@@ -10,16 +10,17 @@ pub enum Question<'a> {
     Type(u8, u32),
     // the size of a code
     Size(u8),
-    // whether a type keeps a code
+    // whether a type keeps a code; and whether it does, for every code
     Kept(MysqlType, u8),
+    Keeps(MysqlType),
     // whether flags are taken
     Flags(u32),
     // the kind of an error number
     Kind(u16),
-    // a value as an i32, as an i64, and as a time
-    Int(MysqlType, &'a [u8]),
-    Big(MysqlType, &'a [u8]),
-    Time(MysqlType, &'a [u8]),
+    // a value as an i32, as an i64, and as a time; no bytes where it is null
+    Int(MysqlType, Option<&'a [u8]>),
+    Big(MysqlType, Option<&'a [u8]>),
+    Time(MysqlType, Option<&'a [u8]>),
     // the events of a recorded result, opened with these wanted types
     Tape(&'a [Option<MysqlType>], &'a [u8]),
     // what the rows of a tray have, opened with these wanted types
@@ -33,6 +34,7 @@ pub enum Kind {
     Type,
     Size,
     Kept,
+    Keeps,
     Flags,
     Kind,
     Int,
@@ -43,11 +45,12 @@ pub enum Kind {
 }
 
 impl Kind {
-    pub const ALL: [Kind; 11] = [
+    pub const ALL: [Kind; 12] = [
         Kind::Asks,
         Kind::Type,
         Kind::Size,
         Kind::Kept,
+        Kind::Keeps,
         Kind::Flags,
         Kind::Kind,
         Kind::Int,
@@ -64,6 +67,7 @@ impl Kind {
             "type" => Kind::Type,
             "size" => Kind::Size,
             "kept" => Kind::Kept,
+            "keeps" => Kind::Keeps,
             "flags" => Kind::Flags,
             "kind" => Kind::Kind,
             "int" => Kind::Int,
@@ -82,6 +86,7 @@ impl Kind {
             Kind::Type => "type",
             Kind::Size => "size",
             Kind::Kept => "kept",
+            Kind::Keeps => "keeps",
             Kind::Flags => "flags",
             Kind::Kind => "kind",
             Kind::Int => "int",

@@ -53,6 +53,16 @@ impl<'a> Words<'a> {
         Ok(bytes.as_slice())
     }
 
+    // The bytes of a value; none where it is null.
+    pub fn value<'b>(&mut self, bytes: &'b mut Vec<u8>) -> Result<Option<&'b [u8]>, Unread> {
+        let word = self.word()?;
+        if word == "null" {
+            return Ok(None);
+        }
+        bytes_in(word, bytes)?;
+        Ok(Some(bytes.as_slice()))
+    }
+
     // Wanted types, put in place of those that the vector has.
     pub fn wanted<'b>(
         &mut self,

@@ -5,7 +5,7 @@ use std::fmt;
 // How many cases of each kind there were, in the kinds' order, and how many other lines.
 #[derive(Clone, Copy, Default)]
 pub struct Counts {
-    cases: [u64; 11],
+    cases: [u64; 12],
     comments: u64,
     unread: u64,
     differences: u64,

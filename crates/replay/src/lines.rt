@@ -31,11 +31,16 @@ fn text_of(line: &[u8]) -> Result<&str, Unread> {
     }
 }
 
-// Whether an answer, with a space before it, is the recorded one.
-fn is_same(recorded: &str, answer: &[u8]) -> bool {
-    match answer {
-        [b' ', answer @ ..] => *answer == *recorded.as_bytes(),
-        _ => false,
+// Whether an answer, with a space before it, is the recorded one. After `stop` nothing is compared: a figure is lost there.
+fn is_same(recorded: &str, answer: &str) -> bool {
+    let Some(answer) = answer.strip_prefix(' ') else {
+        return false;
+    };
+    match recorded.strip_suffix("stop") {
+        Some(before) => answer
+            .strip_prefix(before)
+            .is_some_and(|rest| rest.starts_with("lost:")),
+        None => answer == recorded,
     }
 }
 
@@ -57,12 +62,11 @@ impl Comparer {
         let kind = Kind::of_word(words.word()?).ok_or(Unread::UnknownKind)?;
         let question = self.buffers.question(kind, &mut words)?;
         let recorded = words.rest()?;
-        let answer = self.port.answer(question)?;
+        // What the port answers is ASCII.
+        let answer = std::str::from_utf8(self.port.answer(question)?).unwrap_or("?");
         if is_same(recorded, answer) {
             return Ok(Compared::Same(kind));
         }
-        // What the port answers is ASCII.
-        let answer = std::str::from_utf8(answer).unwrap_or("?");
         Ok(Compared::Different { kind, line, answer })
     }
 }

@@ -38,11 +38,7 @@ fn watch_events<H: Host, W: Watch>(
         match session.fetch(arena) {
             Ok(Fetch::Row) => watch_row(session, arena, watch)?,
             Ok(Fetch::End) => return watch.end(),
-            Err(fault) => {
-                if !watch.refused(fault)? {
-                    return Ok(());
-                }
-            }
+            Err(fault) => watch.refused(fault)?,
         }
     }
 }

@@ -19,8 +19,8 @@ pub trait Watch {
 
     fn unread(&mut self, fault: Fault) -> Result<(), Self::Error>;
 
-    // A fetch was refused. Says whether to go on.
-    fn refused(&mut self, fault: Fault) -> Result<bool, Self::Error>;
+    // A fetch was refused.
+    fn refused(&mut self, fault: Fault) -> Result<(), Self::Error>;
 
     // No event is left.
     fn end(&mut self) -> Result<(), Self::Error>;
