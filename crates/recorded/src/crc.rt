@@ -1,32 +1,34 @@
 // CRC-32, as Ethernet and zlib have it.
-ghost use Rattle.std.specs.Prelude.{◌≡◌};
-ghost use Rattle.recorded.specs.Checksums.{divided, with_byte, checksum};
+use crate::division::with_bytes;
 
-// The divisor, its highest power left out and the others from the highest bit down.
-const DIVISOR: u32 = 0xEDB8_8320;
+// The checksum of the bytes that were added so far.
+#[derive(Clone, Copy)]
+pub struct Checksum {
+    remainder: u32,
+}
 
-// A bit of the division.
-fn divided(crc: u32) -> u32
-    ensures { result ≡ divided crc }
-{
-    if crc % 2 == 1 {
-        (crc / 2) ^ DIVISOR
-    } else {
-        crc / 2
+impl Checksum {
+    ghost use Rattle.std.specs.Prelude.{◌≡◌, ℕ, List, [], ◌++◌};
+    ghost use Rattle.recorded.specs.Checksums.{checksum, Has};
+
+    // Of no bytes.
+    pub fn new() -> Checksum
+        ensures { Has result [] }
+    {
+        Checksum {
+            remainder: u32::MAX,
+        }
     }
-}
 
-// A byte of it.
-fn with_byte(crc: u32, byte: u8) -> u32
-    ensures { result ≡ with_byte crc byte }
-{
-    let two = |crc: u32| divided(divided(crc));
-    two(two(two(two(crc ^ u32::from(byte)))))
-}
+    pub fn add(&mut self, bytes: &[u8])
+        ensures { (before : List ℕ) → Has self.old before → Has self.new (before ++ bytes.now) }
+    {
+        self.remainder = with_bytes(self.remainder, bytes);
+    }
 
-// The checksum of some bytes, after those that gave this one; 0 is the checksum of none.
-pub fn checksum(crc: u32, bytes: &[u8]) -> u32
-    ensures { result ≡ checksum crc bytes.now }
-{
-    !bytes.iter().fold(!crc, |crc, byte| with_byte(crc, *byte))
+    pub fn value(self) -> u32
+        ensures { (bytes : List ℕ) → Has self bytes → result ≡ checksum bytes }
+    {
+        !self.remainder
+    }
 }
