@@ -22,7 +22,7 @@ use Rattle.recorded.specs.declared.question.Question.{Question}
 use Rattle.recorded.specs.declared.question.Question.TheVariants as question
 use Rattle.walk.specs.Walks.{walk_said}
 use Rattle.answers.specs.Texts.{number, refusal}
-use Rattle.answers.specs.Singles.{asks, type_word, size_word, flags_word, kind_number, integer_word, time_words}
+use Rattle.answers.specs.Singles.{asks, type_word, size_word, flags_word, kind_number, integer_word, time_words, keeps_word}
 use Rattle.answers.specs.Events.{said_words}
 use Rattle.answers.specs.Trays.{tray_words}
 
@@ -47,7 +47,7 @@ Answered arena (question.Asks t) text = text ≡ asks t
 Answered arena (question.Type code flags) text = text ≡ type_word (type_of code flags)
 Answered arena (question.Size code) text = text ≡ size_word (size_of code)
 Answered arena (question.Kept t code) text = text ≡ number (cond (keeps t code) 1 0)
-Answered arena (question.Keeps t) text = Unit {0}
+Answered arena (question.Keeps t) text = text ≡ keeps_word t
 Answered arena (question.Flags flags) text = text ≡ flags_word flags (flags_of flags)
 Answered arena (question.Kind n) text = text ≡ number (kind_number (kind_of n))
 Answered arena (question.Int t bytes) text = text ≡ integer_word signed_decimal (read (integer (2 ^ 31)) t bytes)

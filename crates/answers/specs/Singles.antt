@@ -1,5 +1,6 @@
 -- The answers to questions of a type, a code, flags, an error number or one value.
 use Rattle.std.specs.Prelude.{ℕ, ℤ, ◌+◌, ◌*◌, ◌^◌, ◌==◌, zero, suc, Bool, cond, List, [], ◌∷◌, ◌++◌, Some, None, Option, Ok, Err, Result, codes}
+use Rattle.hex.specs.Hex.{encode_lower}
 use Rattle.mysql.specs.declared.backend.MysqlType.{MysqlType}
 use Rattle.mysql.specs.declared.fault.Fault.{Fault}
 use Rattle.mysql.specs.declared.result.DatabaseErrorKind.{DatabaseErrorKind}
@@ -62,3 +63,15 @@ further_words t = number t.second_part ++ (signed t.time_type ++ signed t.time_z
 abbrev pub time_words : Result MysqlTime Fault → List ℕ
 time_words (Ok t) = date_words t ++ (clock_words t ++ further_words t)
 time_words (Err f) = refusal f
+
+-- Which of n codes from c on a type keeps: a bit each, the lowest for the first. And the same of all codes below 8 n, in n bytes.
+abbrev pub kept_bits : MysqlType → (c n : ℕ) → ℕ
+kept_bits t c zero = 0
+kept_bits t c (suc n) = cond (keeps t c) 1 0 + 2 * kept_bits t (c + 1) n
+
+abbrev pub kept_bytes : MysqlType → ℕ → List ℕ
+kept_bytes t zero = []
+kept_bytes t (suc n) = kept_bytes t n ++ kept_bits t (8 * n) 8 ∷ []
+
+abbrev pub keeps_word : MysqlType → List ℕ
+keeps_word t = codes " " ++ encode_lower (kept_bytes t 32)

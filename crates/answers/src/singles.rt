@@ -1,12 +1,12 @@
 // Answers of a type, a size, a flag or one reading.
-ghost use Rattle.std.specs.Prelude.{◌≡◌, ◌++◌, cond, Ok, OnOk};
+ghost use Rattle.std.specs.Prelude.{◌≡◌, ◌≤◌, ◌++◌, cond, Ok, OnOk};
 ghost use Rattle.mysql.specs.Refusals.{kind_of};
 ghost use Rattle.mysql.specs.Types.{type_of, size_of};
 ghost use Rattle.mysql.specs.Taken.{flags_of};
 ghost use Rattle.mysql.specs.Kept.{keeps};
 ghost use Rattle.readings.specs.Times.{time};
 ghost use Rattle.answers.specs.Texts.{number};
-ghost use Rattle.answers.specs.Singles.{asks, type_word, size_word, flags_word, kind_number, integer_word, date_words, clock_words, further_words, time_words};
+ghost use Rattle.answers.specs.Singles.{asks, keeps_word, kept_bits, type_word, size_word, flags_word, kind_number, integer_word, date_words, clock_words, further_words, time_words};
 ghost use Rattle.answers.specs.Answers.{read};
 
 use crate::text::Text;
@@ -20,6 +20,32 @@ fn reading<T: FromSql>(tpe: MysqlType, bytes: Option<&[u8]>) -> Result<T, Fault>
     ensures { result ≡ read T.FromSql.reads tpe bytes.entry }
 {
     from_nullable_sql(bytes.map(|bytes| MysqlValue::new(bytes, tpe)))
+}
+
+// Whether a type keeps a code, as a bit.
+fn kept_bit(tpe: MysqlType, code: u8) -> u8
+    ensures bit { result ≡ cond (keeps tpe code) 1 0 }
+    ensures small { result ≤ 1 }
+{
+    u8::from(is_kept(tpe, code))
+}
+
+// Which of four codes, and of eight, a type keeps.
+fn kept_half(tpe: MysqlType, first: u8) -> u8
+    requires { first ≤ 252 }
+    ensures bits { result ≡ kept_bits tpe first 4 }
+    ensures small { result ≤ 15 }
+{
+    let low = kept_bit(tpe, first) + 2 * kept_bit(tpe, first + 1);
+    let high = kept_bit(tpe, first + 2) + 2 * kept_bit(tpe, first + 3);
+    low + 4 * high
+}
+
+fn kept_byte(tpe: MysqlType, first: u8) -> u8
+    requires { first ≤ 248 }
+    ensures { result ≡ kept_bits tpe first 8 }
+{
+    kept_half(tpe, first) + 16 * kept_half(tpe, first + 4)
 }
 
 impl Text {
@@ -61,16 +87,12 @@ impl Text {
     }
 
     // Which codes a type keeps: a bit each, the lowest of each byte first.
-    pub(crate) fn keeps(&mut self, tpe: MysqlType) -> Result<(), AllocError> {
+    pub(crate) fn keeps(&mut self, tpe: MysqlType) -> Result<(), AllocError>
+        ensures { OnOk result (self.new.bytes.items ≡ self.old.bytes.items ++ keeps_word tpe) }
+    {
         self.part(b" ")?;
-        for byte in 0..32 {
-            let mut bits = 0;
-            for bit in 0..8 {
-                if is_kept(tpe, byte * 8 + bit) {
-                    bits |= 1 << bit;
-                }
-            }
-            self.hexadecimal(&[bits])?;
+        for i in 0..32 {
+            self.hexadecimal(&[kept_byte(tpe, 8 * i)])?;
         }
         Ok(())
     }

@@ -3,6 +3,9 @@ use answers::Port;
 use recorded::{Buffers, Kind, Unread, Words};
 use std::alloc::{AllocError, Global};
 
+// How long the arena is that results are opened over.
+const ARENA: usize = 65_536;
+
 // What came of a line that could be read.
 #[derive(Clone, Copy)]
 pub enum Compared<'a> {
@@ -21,6 +24,7 @@ pub enum Compared<'a> {
 pub struct Comparer {
     buffers: Buffers,
     port: Port,
+    arena: Vec<u8>,
 }
 
 // A line without its end.
@@ -48,7 +52,8 @@ impl Comparer {
     pub fn new(heap: Global) -> Result<Comparer, AllocError> {
         Ok(Comparer {
             buffers: Buffers::new(heap),
-            port: Port::new(heap)?,
+            port: Port::new(heap),
+            arena: vec![in heap; 0; ARENA]?,
         })
     }
 
@@ -62,8 +67,9 @@ impl Comparer {
         let kind = Kind::of_word(words.word()?).ok_or(Unread::UnknownKind)?;
         let question = self.buffers.question(kind, &mut words)?;
         let recorded = words.rest()?;
-        // What the port answers is ASCII.
-        let answer = std::str::from_utf8(self.port.answer(question)?).unwrap_or("?");
+        let answer = self.port.answer(&mut self.arena, question)?;
+        // It is ASCII.
+        let answer = std::str::from_utf8(answer).unwrap_or("?");
         if is_same(recorded, answer) {
             return Ok(Compared::Same(kind));
         }
