@@ -1,4 +1,7 @@
 // Reading the question of a line.
+ghost use Rattle.std.specs.Prelude.{◌≡◌, IfOk};
+ghost use Rattle.recorded.specs.Kinds.{kind_of};
+
 use crate::question::{Kind, Question};
 use crate::unread::Unread;
 use crate::words::Words;
@@ -25,7 +28,9 @@ impl Buffers {
         &'a mut self,
         kind: Kind,
         words: &mut Words,
-    ) -> Result<Question<'a>, Unread> {
+    ) -> Result<Question<'a>, Unread>
+        ensures { IfOk result (λ question. kind_of question ≡ kind) }
+    {
         Ok(match kind {
             Kind::Asks => Question::Asks(words.tpe()?),
             Kind::Type => Question::Type(words.number()?, words.number()?),

@@ -45,6 +45,10 @@ pub enum Kind {
 }
 
 impl Kind {
+    ghost use Rattle.std.specs.Prelude.{◌≡◌, ◌≢◌, MatchOption};
+    ghost use Rattle.recorded.specs.declared.question.Kind.{Kind as AnyKind};
+    ghost use Rattle.recorded.specs.Kinds.{word_of};
+
     pub const ALL: [Kind; 12] = [
         Kind::Asks,
         Kind::Type,
@@ -61,7 +65,9 @@ impl Kind {
     ];
 
     // The kind that a word stands for.
-    pub fn of_word(word: &str) -> Option<Kind> {
+    pub fn of_word(word: &str) -> Option<Kind>
+        ensures { MatchOption result ((kind : AnyKind) → word.now ≢ word_of kind) (λ kind. word.now ≡ word_of kind) }
+    {
         Some(match word {
             "asks" => Kind::Asks,
             "type" => Kind::Type,
@@ -80,7 +86,9 @@ impl Kind {
     }
 
     // The word that begins the lines of its cases.
-    pub fn word(self) -> &'static str {
+    pub fn word(self) -> &'static str
+        ensures { result.now ≡ word_of self }
+    {
         match self {
             Kind::Asks => "asks",
             Kind::Type => "type",

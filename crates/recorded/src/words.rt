@@ -1,4 +1,8 @@
 // The words of a line.
+ghost use Rattle.std.specs.Prelude.{◌≡◌, ◌≢◌, ◌↔◌, None, Some, MatchResult, IfOk, OnOk};
+ghost use Rattle.recorded.specs.declared.unread.Unread.TheVariants.{TooShort, NoBytes};
+ghost use Rattle.recorded.specs.Lines.{left, Cuts, Writes};
+
 use crate::types::type_numbered;
 use crate::unread::Unread;
 use mysql::MysqlType;
@@ -12,17 +16,23 @@ pub struct Words<'a> {
 }
 
 impl<'a> Words<'a> {
-    pub fn new(line: &'a str) -> Words<'a> {
+    pub fn new(line: &'a str) -> Words<'a>
+        ensures { left result ≡ Some line.now }
+    {
         Words { rest: Some(line) }
     }
 
     // All that is left.
-    pub fn rest(self) -> Result<&'a str, Unread> {
+    pub fn rest(self) -> Result<&'a str, Unread>
+        ensures { MatchResult result (λ rest. left self.entry ≡ Some rest.now) (λ e. (e ≡ TooShort) × (left self.entry ≡ None)) }
+    {
         self.rest.ok_or(Unread::TooShort)
     }
 
     // The next word.
-    pub fn word(&mut self) -> Result<&'a str, Unread> {
+    pub fn word(&mut self) -> Result<&'a str, Unread>
+        ensures { MatchResult result (λ word. Cuts (left self.old) word.now (left self.new)) (λ e. (e ≡ TooShort) × (left self.old ≡ None)) }
+    {
         let rest = self.rest.ok_or(Unread::TooShort)?;
         match rest.split_once(' ') {
             Some((word, after)) => {
@@ -105,7 +115,9 @@ fn wanted_in(word: &str, wanted: &mut Vec<Option<MysqlType>>) -> Result<(), Unre
 }
 
 // `-` is no bytes.
-fn bytes_in(word: &str, bytes: &mut Vec<u8>) -> Result<(), Unread> {
+fn bytes_in(word: &str, bytes: &mut Vec<u8>) -> Result<(), Unread>
+    ensures { OnOk result (Writes word.now bytes.new.items) }
+{
     bytes.clear();
     if word.is_empty() {
         return Err(Unread::NoBytes);
