@@ -1,10 +1,9 @@
 -- What a sum holds, where one thing more is said.
-use Rattle.std.proofs.Common.{◌≡◌, ℕ, ◌+◌, ◌≤◌, Bool, true, false, cond, List, [], ◌∷◌, ◌++◌, length, length-append, Result, Ok, Err, Some, None, refl, sym, ap, ◌∙◌, subst, arith}
+use Rattle.std.proofs.Common.{◌≡◌, ℕ, ◌+◌, Bool, false, cond, List, [], ◌∷◌, ◌++◌, length, length-append, Result, Ok, Err, sym, ap, ◌∙◌, subst, arith}
 use Rattle.std.specs.Result.{OnOk}
 use Rattle.std.proofs.lemmas.List.{append_assoc, append-nil}
-use Rattle.recorded.specs.declared.crc.Checksum.{Checksum}
 use Rattle.recorded.specs.Checksums.{Has}
-use Rattle.walk.specs.Walks.{Said, a_column}
+use Rattle.walk.specs.Walks.{Said}
 use Rattle.answers.specs.declared.text.Text.{Text}
 use Rattle.answers.specs.declared.trays.Sum.{Sum}
 use Rattle.answers.specs.Trays.{is_null, nulls_in, bytes_of, bytes_in, trouble_of, trouble_in, capped}

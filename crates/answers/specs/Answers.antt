@@ -1,5 +1,5 @@
 -- What is answered to each question, over an arena of some length: in words, each with a space before it.
-use Rattle.std.specs.Prelude.{◌≡◌, ℕ, ◌^◌, cond, List, [], ◌++◌, Some, None, Option, Ok, Err, Result}
+use Rattle.std.specs.Prelude.{◌≡◌, ℕ, ◌^◌, cond, List, Some, None, Option, Ok, Err, Result}
 use Rattle.std.specs.Borrow.{Bor}
 use Rattle.std.specs.Fmt.{signed_decimal}
 use Rattle.mysql.specs.declared.backend.MysqlType.{MysqlType}

@@ -1,13 +1,12 @@
 -- The answers to questions of a type, a code, flags, an error number or one value.
-use Rattle.std.specs.Prelude.{ℕ, ℤ, ◌+◌, ◌*◌, ◌^◌, ◌==◌, zero, suc, Bool, cond, List, [], ◌∷◌, ◌++◌, Some, None, Option, Ok, Err, Result, codes}
+use Rattle.std.specs.Prelude.{ℕ, ◌+◌, ◌*◌, ◌==◌, zero, suc, cond, List, [], ◌∷◌, ◌++◌, Some, None, Option, Ok, Err, Result, codes}
 use Rattle.hex.specs.Hex.{encode_lower}
 use Rattle.mysql.specs.declared.backend.MysqlType.{MysqlType}
 use Rattle.mysql.specs.declared.fault.Fault.{Fault}
 use Rattle.mysql.specs.declared.result.DatabaseErrorKind.{DatabaseErrorKind}
 use Rattle.mysql.specs.declared.result.DatabaseErrorKind.TheVariants.{UniqueViolation, ForeignKeyViolation, UnableToSendCommand, SerializationFailure, ReadOnlyTransaction, RestrictViolation, NotNullViolation, CheckViolation, ExclusionViolation, ClosedConnection, Unknown}
-use Rattle.mysql.specs.Refusals.{number_of, kind_of}
-use Rattle.mysql.specs.Types.{pair_of, type_of, size_of}
-use Rattle.mysql.specs.Taken.{flags_of}
+use Rattle.mysql.specs.Refusals.{number_of}
+use Rattle.mysql.specs.Types.{pair_of}
 use Rattle.mysql.specs.Kept.{keeps, row_of}
 use Rattle.readings.specs.declared.date_and_time.MysqlTime.{MysqlTime}
 use Rattle.answers.specs.Texts.{number, signed, refusal}

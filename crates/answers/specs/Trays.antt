@@ -1,6 +1,5 @@
 -- The answers to questions of a tray: what all of its rows have, in numbers; or what was refused.
 use Rattle.std.specs.Prelude.{ℕ, ◌+◌, ◌-◌, ◌^◌, min, Bool, true, false, cond, List, [], ◌∷◌, ◌++◌, length, Some, None, Ok, Err}
-use Rattle.rows.specs.Dues.{Shown}
 use Rattle.recorded.specs.Checksums.{checksum}
 use Rattle.walk.specs.Walks.{Said, unopened, a_row, a_column, refused, the_end}
 use Rattle.answers.specs.Texts.{number}

@@ -24,11 +24,7 @@ impl Buffers {
     }
 
     // Takes a question of this kind off the words of a line; what is left of them is the answer.
-    pub fn question<'a>(
-        &'a mut self,
-        kind: Kind,
-        words: &mut Words,
-    ) -> Result<Question<'a>, Unread>
+    pub fn question<'a>(&'a mut self, kind: Kind, words: &mut Words) -> Result<Question<'a>, Unread>
         ensures { IfOk result (λ question. kind_of question ≡ kind) }
     {
         Ok(match kind {

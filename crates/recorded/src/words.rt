@@ -46,25 +46,25 @@ impl<'a> Words<'a> {
         }
     }
 
-    pub fn number<N: FromStr>(&mut self) -> Result<N, Unread>
+    pub(crate) fn number<N: FromStr>(&mut self) -> Result<N, Unread>
     where
         N::Err: Drop,
     {
         number_in(self.word()?)
     }
 
-    pub fn tpe(&mut self) -> Result<MysqlType, Unread> {
+    pub(crate) fn tpe(&mut self) -> Result<MysqlType, Unread> {
         type_in(self.word()?)
     }
 
     // Bytes, put in place of those that the vector has.
-    pub fn bytes<'b>(&mut self, bytes: &'b mut Vec<u8>) -> Result<&'b [u8], Unread> {
+    pub(crate) fn bytes<'b>(&mut self, bytes: &'b mut Vec<u8>) -> Result<&'b [u8], Unread> {
         bytes_in(self.word()?, bytes)?;
         Ok(bytes.as_slice())
     }
 
     // The bytes of a value; none where it is null.
-    pub fn value<'b>(&mut self, bytes: &'b mut Vec<u8>) -> Result<Option<&'b [u8]>, Unread> {
+    pub(crate) fn value<'b>(&mut self, bytes: &'b mut Vec<u8>) -> Result<Option<&'b [u8]>, Unread> {
         let word = self.word()?;
         if word == "null" {
             return Ok(None);
@@ -74,7 +74,7 @@ impl<'a> Words<'a> {
     }
 
     // Wanted types, put in place of those that the vector has.
-    pub fn wanted<'b>(
+    pub(crate) fn wanted<'b>(
         &mut self,
         wanted: &'b mut Vec<Option<MysqlType>>,
     ) -> Result<&'b [Option<MysqlType>], Unread> {

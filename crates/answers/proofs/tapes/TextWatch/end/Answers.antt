@@ -1,5 +1,4 @@
-use Rattle.std.proofs.Common.{Ok, None}
-use Rattle.walk.specs.Walks.{a_row, a_column, the_end}
+use Rattle.walk.specs.Walks.{the_end}
 use Rattle.answers.proofs.Snocs.{told}
 use Rattle.answers.proofs.tapes.TextWatch.end.Goals as goal
 

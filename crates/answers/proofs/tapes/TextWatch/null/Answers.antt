@@ -1,5 +1,5 @@
 use Rattle.std.proofs.Common.{Ok, None}
-use Rattle.walk.specs.Walks.{a_row, a_column, the_end}
+use Rattle.walk.specs.Walks.{a_column}
 use Rattle.answers.proofs.Snocs.{told}
 use Rattle.answers.proofs.tapes.TextWatch.null.Goals as goal
 

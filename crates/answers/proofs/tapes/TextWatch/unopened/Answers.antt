@@ -1,5 +1,4 @@
-use Rattle.std.proofs.Common.{Err}
-use Rattle.walk.specs.Walks.{unopened, a_column, refused}
+use Rattle.walk.specs.Walks.{unopened}
 use Rattle.answers.proofs.Snocs.{told}
 use Rattle.answers.proofs.tapes.TextWatch.unopened.Goals as goal
 

@@ -1,5 +1,5 @@
 use Rattle.std.proofs.Common.{Err}
-use Rattle.walk.specs.Walks.{unopened, a_column, refused}
+use Rattle.walk.specs.Walks.{a_column}
 use Rattle.answers.proofs.Snocs.{told}
 use Rattle.answers.proofs.tapes.TextWatch.unread.Goals as goal
 

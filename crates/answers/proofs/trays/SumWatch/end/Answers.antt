@@ -1,6 +1,6 @@
 use Rattle.std.proofs.Common.{refl, sym}
 use Rattle.std.proofs.lemmas.List.{append-nil}
-use Rattle.walk.specs.Walks.{a_row, the_end}
+use Rattle.walk.specs.Walks.{the_end}
 use Rattle.answers.proofs.Summed.{quiet}
 use Rattle.answers.proofs.trays.SumWatch.end.Goals as goal
 

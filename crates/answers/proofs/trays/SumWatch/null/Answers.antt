@@ -1,4 +1,4 @@
-use Rattle.std.proofs.Common.{Ok, None, sym, arith, subst, ◌++◌, List, ℕ}
+use Rattle.std.proofs.Common.{Ok, None, sym, arith, subst, List, ℕ}
 use Rattle.std.proofs.lemmas.List.{append-nil}
 use Rattle.recorded.specs.Checksums.{Has}
 use Rattle.walk.specs.Walks.{a_column}

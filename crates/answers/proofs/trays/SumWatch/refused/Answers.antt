@@ -1,5 +1,5 @@
-use Rattle.std.proofs.Common.{Err, refl}
-use Rattle.walk.specs.Walks.{unopened, a_column, refused}
+use Rattle.std.proofs.Common.{refl}
+use Rattle.walk.specs.Walks.{refused}
 use Rattle.answers.proofs.Summed.{put}
 use Rattle.answers.proofs.trays.SumWatch.refused.Goals as goal
 

@@ -1,5 +1,5 @@
 use Rattle.std.proofs.Common.{Err, refl}
-use Rattle.walk.specs.Walks.{unopened, a_column, refused}
+use Rattle.walk.specs.Walks.{a_column}
 use Rattle.answers.proofs.Summed.{put}
 use Rattle.answers.proofs.trays.SumWatch.unread.Goals as goal
 
