@@ -1,4 +1,7 @@
 // Lines, compared one by one.
+ghost use Rattle.std.specs.Prelude.{◌≡◌, ◌⊎◌, true};
+ghost use Rattle.replay.specs.Same.{LostAfter, StopsAlike, Same};
+
 use answers::Port;
 use recorded::{Buffers, Kind, Unread, Words};
 use std::alloc::{AllocError, Global};
@@ -35,16 +38,33 @@ fn text_of(line: &[u8]) -> Result<&str, Unread> {
     }
 }
 
-// Whether an answer, with a space before it, is the recorded one. After `stop` nothing is compared: a figure is lost there.
-fn is_same(recorded: &str, answer: &str) -> bool {
-    let Some(answer) = answer.strip_prefix(' ') else {
-        return false;
-    };
-    match recorded.strip_suffix("stop") {
-        Some(before) => answer
-            .strip_prefix(before)
-            .is_some_and(|rest| rest.starts_with("lost:")),
-        None => answer == recorded,
+// Whether an answer begins so, and a figure is lost there.
+fn is_lost_after(front: &[u8], answer: &[u8]) -> bool
+    ensures { result ≡ true → LostAfter front.now answer.now }
+{
+    match answer.strip_prefix(front) {
+        Some(rest) => rest.starts_with(b"lost:"),
+        None => false,
+    }
+}
+
+// Whether words are the recorded ones. After `stop` nothing is compared: a figure is lost there.
+fn are_same(recorded: &[u8], words: &[u8]) -> bool
+    ensures { result ≡ true → (words.now ≡ recorded.now) ⊎ StopsAlike recorded.now words.now }
+{
+    match recorded.strip_suffix(b"stop") {
+        Some(front) => is_lost_after(front, words),
+        None => words == recorded,
+    }
+}
+
+// Whether an answer, with a space before it, is the recorded one.
+fn is_same(recorded: &[u8], answer: &[u8]) -> bool
+    ensures { result ≡ true → Same recorded.now answer.now }
+{
+    match answer.strip_prefix(b" ") {
+        Some(words) => are_same(recorded, words),
+        None => false,
     }
 }
 
@@ -68,11 +88,11 @@ impl Comparer {
         let question = self.buffers.question(kind, &mut words)?;
         let recorded = words.rest()?;
         let answer = self.port.answer(&mut self.arena, question)?;
-        // It is ASCII.
-        let answer = std::str::from_utf8(answer).unwrap_or("?");
-        if is_same(recorded, answer) {
+        if is_same(recorded.as_bytes(), answer) {
             return Ok(Compared::Same(kind));
         }
+        // It is ASCII.
+        let answer = std::str::from_utf8(answer).unwrap_or("?");
         Ok(Compared::Different { kind, line, answer })
     }
 }
