@@ -96,3 +96,45 @@ impl Comparer {
         Ok(Compared::Different { kind, line, answer })
     }
 }
+
+#[cfg(test)]
+mod tests {
+    use super::*;
+    use std::test::Fail;
+
+    #[test]
+    fn wrong_lines_are_told(rt: HostRuntime) -> Result<(), Fail> {
+        let mut comparer = Comparer::new(rt.alloc())?;
+        let different = [
+            "asks 0 1 1\n",
+            "asks 0 1\n",
+            "asks 0 1 0 0\n",
+            "type 13 0 3\n",
+            "int 0 - 0\n",
+            "tape - 01000000fd00000000 row end\n",
+            "tape - 01000000fd00000000 stop\n",
+            "tray 1 - 0 37 0\n",
+        ];
+        for line in different {
+            let compared = comparer.compare(line.as_bytes());
+            assert!(rt;
+                matches!(compared, Ok(Compared::Different { .. })),
+                "{line}"
+            );
+        }
+        let unread = [
+            "\n",
+            "asks 0 1 0",
+            "Asks 0 1 0\n",
+            "asks 0\n",
+            "asks 20 1 0\n",
+            "asks  0 1 0\n",
+            "int 0 0 5\n",
+            "tape - 01000000fd00000000\n",
+        ];
+        for line in unread {
+            assert!(rt; comparer.compare(line.as_bytes()).is_err(), "{line}");
+        }
+        Ok(())
+    }
+}
