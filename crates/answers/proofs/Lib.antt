@@ -1,0 +1,2 @@
+pub mod Snocs
+pub mod Summed

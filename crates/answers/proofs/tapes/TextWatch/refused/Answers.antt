@@ -1,0 +1,6 @@
+use Rattle.walk.specs.Walks.{refused}
+use Rattle.answers.proofs.Snocs.{told}
+use Rattle.answers.proofs.tapes.TextWatch.refused.Goals as goal
+
+pub returns : goal.returns
+returns c = told c.fetch_refused.result _ _ (refused c.args.fault) c.fetch_refused.ensures

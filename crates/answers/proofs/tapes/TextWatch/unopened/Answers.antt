@@ -1,0 +1,6 @@
+use Rattle.walk.specs.Walks.{unopened}
+use Rattle.answers.proofs.Snocs.{told}
+use Rattle.answers.proofs.tapes.TextWatch.unopened.Goals as goal
+
+pub returns : goal.returns
+returns c = told c.opening_refused.result _ _ (unopened c.args.fault) c.opening_refused.ensures

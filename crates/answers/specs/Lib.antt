@@ -1,0 +1,6 @@
+pub mod Texts
+pub mod Singles
+pub mod Events
+pub mod Trays
+pub mod Sums
+pub mod Answers

@@ -1,0 +1,10 @@
+// What this port answers to a question, in the words in which answers are recorded.
+#![tactic(auto)]
+
+mod port;
+mod singles;
+mod tapes;
+mod text;
+mod trays;
+
+pub use port::Port;

@@ -1,0 +1,28 @@
+-- The words of a line, and the bytes that a word writes.
+use Rattle.std.specs.Prelude.{◌≡◌, ◌≢◌, ℕ, ◌⊎◌, List, [], ◌∷◌, ◌++◌, All, Some, None, Option, Ok, codes}
+use Rattle.std.specs.Borrow.{Bor}
+use Rattle.hex.specs.Hex.{decode_of}
+use Rattle.recorded.specs.declared.words.Words.{Words}
+
+abbrev pub text_of : Option (Bor (List ℕ)) → Option (List ℕ)
+text_of None = None
+text_of (Some t) = Some t.now
+
+-- what is left of a line
+abbrev pub left : Words → Option (List ℕ)
+left w = text_of w.rest
+
+-- a word is cut off: it has no space, and what is left comes after one
+abbrev pub CutFrom : List ℕ → (word : List ℕ) → Option (List ℕ) → Type 0
+CutFrom line word None = line ≡ word
+CutFrom line word (Some rest) = line ≡ word ++ 32 ∷ rest
+
+pub record Cuts (before : Option (List ℕ)) (word : List ℕ) (after : Option (List ℕ)) : Type 0 where
+  pub line : List ℕ
+  pub was : before ≡ Some line
+  pub cut : CutFrom line word after
+  pub no_space : All (λ c. c ≢ 32) word
+
+-- a word writes bytes in hexadecimal; a dash is none
+abbrev pub Writes : (word bytes : List ℕ) → Type 0
+Writes word bytes = ((word ≡ codes "-") × (bytes ≡ [])) ⊎ (decode_of word ≡ Ok bytes)

@@ -1,0 +1,17 @@
+// Recorded answers: a line each, with a question and what was answered to it.
+#![tactic(auto)]
+
+mod buffers;
+mod crc;
+mod division;
+mod question;
+mod types;
+mod unread;
+mod words;
+
+pub use buffers::Buffers;
+pub use crc::Checksum;
+pub use question::{Kind, Question};
+pub use types::type_numbered;
+pub use unread::Unread;
+pub use words::Words;
