@@ -3,10 +3,12 @@ ghost use Rattle.std.specs.Prelude.{◌≡◌, length, IfOk};
 ghost use Rattle.host.specs.Calls.{freed};
 ghost use Rattle.class_list.specs.declared.loading.LoadError.TheVariants.{OutOfMemory};
 ghost use Rattle.class_list.specs.Told.{told_outlet, told_row, told};
+ghost use Rattle.going.specs.Going.{Kept, Ready};
 ghost use Rattle.class_list.specs.Loads.{LoadsTo, LeavesArena};
-ghost use Rattle.class_list.specs.Steps.{refusal_line, IsGoing, outlet_due, row_due, StepsTo, Kept, EndsWith};
+ghost use Rattle.class_list.specs.Steps.{refusal_line, outlet_due, row_due, EndsWith};
 
 use crate::lines::{CLASS, COLUMNS, ClassRow, DIAMETER, Line, OUTLET};
+use going::fetch_next;
 use host::Host;
 use mysql::{Fault, MysqlType};
 use rows::Fetch;
@@ -86,30 +88,17 @@ fn all_lines<H: Host>(
     session: &mut Session<H>,
     arena: &mut [u8],
 ) -> Result<Vec<Line>, LoadError>
-    requires { IsGoing H.Host.meaning session.old arena.old }
+    requires { Ready H.Host.meaning session.old arena.old }
     ensures host { Kept (H.Host.meaning session.old.host) (H.Host.meaning session.new.host) }
     ensures lines { EndsWith H.Host.meaning session.old arena.old result }
 {
     let mut lines = Vec::new(heap);
-    while let Some(line) = next_line(heap, session, arena)? {
-        lines.push(line)?;
-    }
-    Ok(lines)
-}
-
-// Fetches once: the line of the event that was next, or none at the end.
-fn next_line<H: Host>(
-    heap: Global,
-    session: &mut Session<H>,
-    arena: &mut [u8],
-) -> Result<Option<Line>, AllocError>
-    requires { IsGoing H.Host.meaning session.old arena.old }
-    ensures { StepsTo H.Host.meaning result session.old session.new arena.old arena.new }
-{
-    match session.fetch(arena) {
-        Ok(Fetch::End) => Ok(None),
-        Ok(Fetch::Row) => Ok(Some(Line::Row(read_row(heap, session, arena)?))),
-        Err(fault) => Ok(Some(refused(fault))),
+    loop {
+        match fetch_next(session, arena) {
+            Ok(Fetch::Row) => lines.push(Line::Row(read_row(heap, session, arena)?))?,
+            Ok(Fetch::End) => return Ok(lines),
+            Err(fault) => lines.push(refused(fault))?,
+        }
     }
 }
 
@@ -129,7 +118,7 @@ fn read_row<H: Host>(
     session: &Session<H>,
     arena: &[u8],
 ) -> Result<ClassRow, AllocError>
-    requires { IsGoing H.Host.meaning session.now arena.now }
+    requires { Ready H.Host.meaning session.now arena.now }
     ensures { IfOk result (λ row. told_row row ≡ row_due H.Host.meaning session.now) }
 {
     Ok(ClassRow {
@@ -145,7 +134,7 @@ fn read_outlet<H: Host>(
     session: &Session<H>,
     arena: &[u8],
 ) -> Result<Result<Option<Vec<u8>>, Fault>, AllocError>
-    requires { IsGoing H.Host.meaning session.now arena.now }
+    requires { Ready H.Host.meaning session.now arena.now }
     ensures { IfOk result (λ outlet. told_outlet outlet ≡ outlet_due H.Host.meaning session.now) }
 {
     match session.read(arena, OUTLET) {

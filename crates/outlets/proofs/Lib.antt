@@ -1,3 +1,2 @@
-pub mod Fetching
-pub mod Searching
 pub mod Counting
+pub mod Searching

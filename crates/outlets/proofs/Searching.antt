@@ -2,22 +2,20 @@
 use Rattle.std.proofs.Common.{◌≡◌, ℕ, ◌^◌, ℤ, true, false, List, [], ◌∷◌, ◌++◌, inl, inr, Some, None, Ok, Err, Option, Result, sym, refl, ap, ◌∙◌, subst}
 use Rattle.std.proofs.lemmas.List.{append-nil, append_assoc}
 use Rattle.std.specs.List.{AllByRecursion}
-use Rattle.mysql.specs.declared.backend.MysqlType.{MysqlType}
 use Rattle.mysql.specs.declared.bind.Column.{Column}
 use Rattle.mysql.specs.declared.fault.Fault.{Fault}
 use Rattle.host.specs.Meanings.{Event, row, failure, Meaning}
 use Rattle.rows.specs.declared.answers.Fetch.{Fetch}
 use Rattle.rows.specs.declared.answers.Fetch.TheVariants as fetch
 use Rattle.readings.specs.Integers.{integer}
-use Rattle.rows.specs.Dues.{read, read_as}
-use Rattle.rows.specs.Standing.{pairs_of}
+use Rattle.rows.specs.Dues.{read, read_as, fetched}
 use Rattle.session.specs.declared.state.Session.{Session}
-use Rattle.session.specs.Sessions.{table_of, shown_row}
-use Rattle.outlets.specs.Events.{shows}
+use Rattle.session.specs.Sessions.{row_due}
+use Rattle.going.specs.Going.{Going, Leaves, RowShown}
+use Rattle.outlets.specs.Events.{is_row}
 use Rattle.outlets.specs.Outlets.{as_text, outlet_of, some_if, ShowsClass, Copied, OutletIn}
-use Rattle.outlets.proofs.Fetching.{Stands, Stepped, RowCame, row_came, fault_came, end_came}
 
-module _ (pairs : List Column) (n : ℕ) (class : ℤ) where
+module _ {H : Type 0} (means : H → Meaning) (m : Meaning) (pairs : List Column) (n : ℕ) (class : ℤ) where
   abbrev pub ShowsNone : Event → Type 0
   ShowsNone e = ShowsClass pairs n class e → ⊥
 
@@ -25,61 +23,68 @@ module _ (pairs : List Column) (n : ℕ) (class : ℤ) where
   all_and_one [] e h k = (k, tt)
   all_and_one (x ∷ xs) e h k = (h.0, all_and_one xs e h.1 k)
 
+  -- an event that is refused shows no row
+  refused_shows : (e : Event) (f : Fault) → fetched pairs n (e ∷ []) ≡ Err f → ShowsNone e
+  refused_shows (row x) f answer = λ k. let j : true ≡ false = sym k.0 ∙ ap is_row answer in cc
+  refused_shows (failure k) f answer = λ z. z
+
   -- the events before those to come show no row of the class, and nothing was copied
-  pub record Searching {H : Type 0} (coming : List Event) (into : List ℕ) (m : Meaning) (s : Session H) (a into' : List ℕ) : Type 0 where
-    pub stands : Stands pairs n m s a
+  pub record Searching (into : List ℕ) (s : Session H) (a into' : List ℕ) : Type 0 where
+    pub going : Going means m pairs n s a
     pub before : List Event
-    pub there : coming ≡ before ++ m.coming
+    pub there : m.coming ≡ before ++ (means s.host).coming
     pub none : AllByRecursion ShowsNone before
     pub same : into' ≡ into
 
-  module _ {H : Type 0} (coming : List Event) (into : List ℕ) (m m' : Meaning) (s s' : Session H) (a a' into' : List ℕ) (going : Searching coming into m s a into') (r : Result Fetch Fault) (step : Stepped pairs n m r m' s' a') where
+  pub at_start : (into : List ℕ) (s : Session H) (a : List ℕ) → Going means m pairs n s a → m.coming ≡ (means s.host).coming → Searching into s a into
+  at_start into s a going first = record { going = going; before = []; there = first; none = tt; same = refl }
+
+  module _ (into : List ℕ) (s s' : Session H) (a a' into' : List ℕ) (so_far : Searching into s a into') (r : Result Fetch Fault) (w : Leaves means m pairs n r s s' a') where
     -- the next event shows no row of the class either
-    passed_over : (e : Event) (es : List Event) → m.coming ≡ e ∷ es → m'.coming ≡ es → ShowsNone e → Searching coming into m' s' a' into'
-    passed_over e es next left none = record {
-      stands = step.still;
-      before = going.before ++ e ∷ [];
-      there = going.there ∙ ap (λ (ys : List Event). going.before ++ ys) (next ∙ ap (λ (ys : List Event). e ∷ ys) (sym left)) ∙ sym (append_assoc going.before (e ∷ []) m'.coming);
-      none = all_and_one going.before e going.none none;
-      same = going.same;
+    passed_over : (e : Event) → (means s.host).coming ≡ e ∷ (means s'.host).coming → ShowsNone e → Searching into s' a' into'
+    passed_over e next none = record {
+      going = w.going;
+      before = so_far.before ++ e ∷ [];
+      there = so_far.there ∙ ap (λ (ys : List Event). so_far.before ++ ys) next ∙ sym (append_assoc so_far.before (e ∷ []) (means s'.host).coming);
+      none = all_and_one so_far.before e so_far.none none;
+      same = so_far.same;
     }
 
     -- what is read of the row that is shown
-    read_of : {X : Type 0} (reads : MysqlType → List ℕ → Result X Fault) (k : ℕ) (w : RowCame pairs n m m' s') → read_as reads k (read (pairs_of (table_of s')) (shown_row m' s') k) ≡ read_as reads k (read pairs (Some w.is) k)
-    read_of reads k w = rw (step.still.bound, w.shown) refl
+    read_is : (shown : RowShown means m pairs n s s') (k : ℕ) → row_due means s' k ≡ read pairs (Some shown.is) k
+    read_is shown k = rw (w.going.bound, shown.shown) refl
 
-    pub another_class : r ≡ Ok fetch.Row → (read_as (integer (2 ^ 31)) 0 (read (pairs_of (table_of s')) (shown_row m' s') 0) ≡ Ok class → ⊥) → Searching coming into m' s' a' into'
-    another_class e other = let w = row_came pairs n m m' s' a' r step e in passed_over (row w.is) w.rest w.next w.left (λ h. other (read_of (integer (2 ^ 31)) 0 w ∙ h.1))
+    class_is : (shown : RowShown means m pairs n s s') → read_as (integer (2 ^ 31)) 0 (row_due means s' 0) ≡ read_as (integer (2 ^ 31)) 0 (read pairs (Some shown.is) 0)
+    class_is shown = ap (read_as (integer (2 ^ 31)) 0) (read_is shown 0)
 
-    no_class : (e : Event) → shows pairs n e ≡ false → ShowsNone e
-    no_class (row x) h = λ k. let j : true ≡ false = sym k.0 ∙ h in cc
-    no_class (failure k) h = λ z. z
+    pub another_class : r ≡ Ok fetch.Row → (read_as (integer (2 ^ 31)) 0 (row_due means s' 0) ≡ Ok class → ⊥) → Searching into s' a' into'
+    another_class is other = let shown = w.row is in passed_over (row shown.is) shown.next (λ h. other (class_is shown ∙ h.1))
 
-    pub no_row : (f : Fault) → r ≡ Err f → Searching coming into m' s' a' into'
-    no_row f e = let w = fault_came pairs n m m' s' a' r step f e in passed_over w.is w.rest w.next w.left (no_class w.is w.shows)
+    pub no_row : (f : Fault) → r ≡ Err f → Searching into s' a' into'
+    no_row f is = let refused = w.refused f is in passed_over refused.is refused.next (refused_shows refused.is f refused.answer)
 
     -- the end
-    pub not_found : r ≡ Ok fetch.End → OutletIn pairs n class coming into (Ok None) into'
-    not_found e = inr (record {
-      nowhere = subst (AllByRecursion ShowsNone) (sym (going.there ∙ ap (λ (ys : List Event). going.before ++ ys) (end_came pairs n m m' s' a' r step e) ∙ append-nil going.before)) going.none;
+    pub not_found : r ≡ Ok fetch.End → OutletIn pairs n class m.coming into (Ok None) into'
+    not_found is = inr (record {
+      nowhere = subst (AllByRecursion ShowsNone) (sym (so_far.there ∙ ap (λ (ys : List Event). so_far.before ++ ys) (w.end is).none ∙ append-nil so_far.before)) so_far.none;
       none = refl;
-      same = going.same;
+      same = so_far.same;
     })
 
     -- a row of the class, whose outlet was copied
-    pub found : r ≡ Ok fetch.Row → read_as (integer (2 ^ 31)) 0 (read (pairs_of (table_of s')) (shown_row m' s') 0) ≡ Ok class
-        → (answer : Result ℕ Fault) (result : Result (Option ℕ) Fault) (into'' : List ℕ) → result ≡ some_if answer → Copied (read_as as_text 1 (read (pairs_of (table_of s')) (shown_row m' s') 1)) answer into' into''
-        → OutletIn pairs n class coming into result into''
-    found e of_class answer result into'' answers copy =
-        let w = row_came pairs n m m' s' a' r step e in
+    pub found : r ≡ Ok fetch.Row → read_as (integer (2 ^ 31)) 0 (row_due means s' 0) ≡ Ok class
+        → (answer : Result ℕ Fault) (result : Result (Option ℕ) Fault) (into'' : List ℕ) → result ≡ some_if answer → Copied (read_as as_text 1 (row_due means s' 1)) answer into' into''
+        → OutletIn pairs n class m.coming into result into''
+    found is of_class answer result into'' answers copy =
+        let shown = w.row is in
         inl (record {
-          before = going.before;
-          is = w.is;
-          after = w.rest;
-          there = going.there ∙ ap (λ (ys : List Event). going.before ++ ys) w.next;
-          shown = (w.shows, sym (read_of (integer (2 ^ 31)) 0 w) ∙ of_class);
-          first = going.none;
+          before = so_far.before;
+          is = shown.is;
+          after = (means s'.host).coming;
+          there = so_far.there ∙ ap (λ (ys : List Event). so_far.before ++ ys) shown.next;
+          shown = (ap is_row shown.answer, sym (class_is shown) ∙ of_class);
+          first = so_far.none;
           answer = answer;
           answers = answers;
-          outlet = subst (λ (x : List ℕ). Copied (outlet_of pairs w.is) answer x into'') going.same (subst (λ (x : Result (List ℕ) Fault). Copied x answer into' into'') (read_of as_text 1 w) copy);
+          outlet = subst (λ (x : List ℕ). Copied (outlet_of pairs shown.is) answer x into'') so_far.same (subst (λ (x : Result (List ℕ) Fault). Copied x answer into' into'') (ap (read_as as_text 1) (read_is shown 1)) copy);
         })

@@ -1,11 +1,12 @@
 // How many rows of a result a session shows.
-ghost use Rattle.std.specs.Prelude.{◌≡◌, true, false, [], length};
+ghost use Rattle.std.specs.Prelude.{◌≡◌, false, [], length};
 ghost use Rattle.rows.specs.Standing.{pairs_of};
 ghost use Rattle.rows.specs.Dues.{opening};
-ghost use Rattle.session.specs.Sessions.{is_open, table_of};
-ghost use Rattle.play.specs.Moves.{Ready};
+ghost use Rattle.session.specs.Sessions.{table_of};
+ghost use Rattle.going.specs.Going.{Ready};
 ghost use Rattle.outlets.specs.Events.{counts_of, CountsDue};
 
+use going::fetch_next;
 use host::Host;
 use mysql::Fault;
 use rows::Fetch;
@@ -22,13 +23,12 @@ pub struct RowCounts {
 
 // Fetches to the end, and counts. A loop: each turn has what its fetch answered.
 fn count_fetches<H: Host>(session: &mut Session<H>, arena: &mut [u8]) -> RowCounts
-    requires ready { Ready (H.Host.meaning session.old.host) session.old arena.old }
-    requires opened { is_open session.old ≡ true }
+    requires { Ready H.Host.meaning session.old arena.old }
     ensures { result ≡ counts_of (pairs_of (table_of session.old)) (length arena.old) (H.Host.meaning session.old.host).coming }
 {
     let mut counts = RowCounts::default();
     loop {
-        match session.fetch(arena) {
+        match fetch_next(session, arena) {
             Ok(Fetch::Row) => counts.shown = counts.shown.saturating_add(1),
             Ok(Fetch::End) => return counts,
             Err(fault) => match fault.host_error() {

@@ -3,10 +3,11 @@ ghost use Rattle.std.specs.Prelude.{◌≡◌, ◌^◌, ◌<◌, true, false, []
 ghost use Rattle.readings.specs.Integers.{integer};
 ghost use Rattle.rows.specs.Standing.{pairs_of};
 ghost use Rattle.rows.specs.Dues.{opening, read_as};
-ghost use Rattle.session.specs.Sessions.{is_open, is_shown, row_due, table_of};
-ghost use Rattle.play.specs.Moves.{Ready};
+ghost use Rattle.session.specs.Sessions.{row_due, table_of};
+ghost use Rattle.going.specs.Going.{Ready};
 ghost use Rattle.outlets.specs.Outlets.{as_text, copied, Copied, OutletIn, OutletDue};
 
+use going::fetch_next;
 use host::Host;
 use mysql::{Fault, Refusal};
 use rows::Fetch;
@@ -28,8 +29,7 @@ fn copy_whole(bytes: &[u8], into: &mut [u8])
 
 // Whether the row that is shown is of a class.
 fn is_of_class<H: Host>(session: &Session<H>, arena: &[u8], class: i32) -> bool
-    requires ready { Ready (H.Host.meaning session.now.host) session.now arena.now }
-    requires opened { is_open session.now ≡ true }
+    requires { Ready H.Host.meaning session.now arena.now }
     ensures yes { result ≡ true → read_as (integer (2 ^ 31)) 0 (row_due H.Host.meaning session.now 0) ≡ Ok class }
     ensures no { result ≡ false → read_as (integer (2 ^ 31)) 0 (row_due H.Host.meaning session.now 0) ≡ Ok class → ⊥ }
 {
@@ -41,8 +41,7 @@ fn is_of_class<H: Host>(session: &Session<H>, arena: &[u8], class: i32) -> bool
 
 // Copies the outlet of the row that is shown, and answers its length.
 fn copy_outlet<H: Host>(session: &Session<H>, arena: &[u8], into: &mut [u8]) -> Result<usize, Fault>
-    requires ready { Ready (H.Host.meaning session.now.host) session.now arena.now }
-    requires opened { is_open session.now ≡ true }
+    requires { Ready H.Host.meaning session.now arena.now }
     ensures copied { Copied (read_as as_text 1 (row_due H.Host.meaning session.now 1)) result into.old into.new }
     ensures small { IfOk result (λ n. n < 2 ^ 63) }
 {
@@ -64,13 +63,12 @@ fn find<H: Host>(
     class: i32,
     into: &mut [u8],
 ) -> Result<Option<usize>, Fault>
-    requires ready { Ready (H.Host.meaning session.old.host) session.old arena.old }
-    requires opened { is_open session.old ≡ true }
+    requires { Ready H.Host.meaning session.old arena.old }
     ensures found { OutletIn (pairs_of (table_of session.old)) (length arena.old) class (H.Host.meaning session.old.host).coming into.old result into.new }
     ensures small { IfOk result (λ found. IfSome found (λ n. n < 2 ^ 63)) }
 {
     loop {
-        match session.fetch(arena) {
+        match fetch_next(session, arena) {
             Ok(Fetch::Row) => {
                 if is_of_class(session, arena, class) {
                     return Ok(Some(copy_outlet(session, arena, into)?));

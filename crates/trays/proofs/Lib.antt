@@ -1,2 +1,2 @@
 pub mod Additions
-pub mod Runs
+pub mod Adding

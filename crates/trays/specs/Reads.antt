@@ -1,12 +1,12 @@
 -- What reading a result to its end comes to.
-use Rattle.std.specs.Prelude.{◌≡◌, ℕ, true, false, List, [], length, Result}
+use Rattle.std.specs.Prelude.{ℕ, false, List, [], length, Result}
 use Rattle.mysql.specs.declared.fault.Fault.{Fault}
 use Rattle.mysql.specs.Answers.{next}
 use Rattle.host.specs.Meanings.{Meaning}
 use Rattle.rows.specs.Dues as dues
 use Rattle.rows.specs.Standing.{pairs_of}
 use Rattle.session.specs.declared.state.Session.{Session}
-use Rattle.session.specs.Sessions.{is_open, table_of, IsSound, HoldsRow}
+use Rattle.session.specs.Sessions.{table_of}
 use Rattle.trays.specs.declared.sums.Sums.{Sums}
 use Rattle.trays.specs.Fields.{fields_of}
 use Rattle.trays.specs.Sums.{SumsOf}
@@ -15,18 +15,7 @@ use Rattle.trays.specs.Sums.{SumsOf}
 abbrev pub ReadsTo : Meaning → (arena : ℕ) → Result Sums Fault → Type 0
 ReadsTo m arena r = SumsOf (next (dues.opening false arena m.carries [] m.columns) (λ pairs. fields_of pairs arena m.coming)) r
 
--- a host's columns, and the codes that they carry, are as they were
-pub record Kept (m m' : Meaning) : Type 0 where
-  pub columns : m'.columns ≡ m.columns
-  pub carries : m'.carries ≡ m.carries
-
+-- it is an opened session that is read to its end
 module _ {H : Type 0} (means : H → Meaning) where
-  -- a session that is opened over this arena, in which a row that is shown stands whole
-  pub record IsGoing (s : Session H) (a : List ℕ) : Type 0 where
-    pub opened : is_open s ≡ true
-    pub room : (table_of s).room ≡ length a
-    pub sound : IsSound means s
-    pub holds : HoldsRow means s a
-
   abbrev pub SumsFrom : Session H → List ℕ → Result Sums Fault → Type 0
   SumsFrom s a r = SumsOf (fields_of (pairs_of (table_of s)) (length a) (means s.host).coming) r

@@ -1,9 +1,11 @@
 // Reading the first column of a result to its end.
 ghost use Rattle.std.specs.Prelude.{◌≡◌, length};
 ghost use Rattle.host.specs.Calls.{freed};
-ghost use Rattle.trays.specs.Reads.{IsGoing, Kept, SumsFrom, ReadsTo};
+ghost use Rattle.going.specs.Going.{Kept, Ready};
+ghost use Rattle.trays.specs.Reads.{SumsFrom, ReadsTo};
 
 use crate::sums::Sums;
+use going::fetch_next;
 use host::Host;
 use mysql::Fault;
 use rows::Fetch;
@@ -41,13 +43,13 @@ pub fn read_all<H: Host>(host: H, arena: &mut [u8]) -> Summed<H>
 
 // Fetches to the end, and adds up.
 fn add_up<H: Host>(session: &mut Session<H>, arena: &mut [u8]) -> Result<Sums, Fault>
-    requires { IsGoing H.Host.meaning session.old arena.old }
+    requires { Ready H.Host.meaning session.old arena.old }
     ensures host { Kept (H.Host.meaning session.old.host) (H.Host.meaning session.new.host) }
     ensures sums { SumsFrom H.Host.meaning session.old arena.old result }
 {
     let mut sums = Sums::none();
     loop {
-        match session.fetch(arena)? {
+        match fetch_next(session, arena)? {
             Fetch::End => return Ok(sums),
             Fetch::Row => match session.read(arena, COLUMN)? {
                 Some(shown) => sums.add(shown.value().as_bytes()),

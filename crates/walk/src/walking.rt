@@ -1,10 +1,12 @@
 // The walk.
-ghost use Rattle.std.specs.Prelude.{◌≡◌, true, List, [], ◌∷◌, ◌++◌, length, OnOk};
+ghost use Rattle.std.specs.Prelude.{List, [], ◌∷◌, ◌++◌, length, OnOk};
 ghost use Rattle.rows.specs.Standing.{pairs_of};
-ghost use Rattle.session.specs.Sessions.{IsSound, HoldsRow, passes, shown_row, row_due, table_of};
+ghost use Rattle.session.specs.Sessions.{shown_row, row_due, table_of};
+ghost use Rattle.going.specs.Going.{Ready};
 ghost use Rattle.walk.specs.Walks.{Said, a_column, row_said, events_said, walk_said};
 
 use crate::watch::Watch;
+use going::fetch_next;
 use host::Host;
 use mysql::MysqlType;
 use rows::Fetch;
@@ -17,9 +19,7 @@ fn watch_column<H: Host, W: Watch>(
     column: usize,
     watch: &mut W,
 ) -> Result<(), W::Error>
-    requires sound { IsSound H.Host.meaning session.now }
-    requires holds { HoldsRow H.Host.meaning session.now arena.now }
-    requires ready { passes session.now arena.now ≡ true }
+    requires { Ready H.Host.meaning session.now arena.now }
     ensures { (said : List Said) → W.Watch.heard watch.old said → OnOk result (W.Watch.heard watch.new (said ++ a_column (row_due H.Host.meaning session.now column) ∷ [])) }
 {
     match session.read(arena, column) {
@@ -35,9 +35,7 @@ fn watch_row<H: Host, W: Watch>(
     arena: &[u8],
     watch: &mut W,
 ) -> Result<(), W::Error>
-    requires sound { IsSound H.Host.meaning session.now }
-    requires holds { HoldsRow H.Host.meaning session.now arena.now }
-    requires ready { passes session.now arena.now ≡ true }
+    requires { Ready H.Host.meaning session.now arena.now }
     ensures { (said : List Said) → W.Watch.heard watch.old said → OnOk result (W.Watch.heard watch.new (said ++ row_said (pairs_of (table_of session.now)) (shown_row (H.Host.meaning session.now.host) session.now))) }
 {
     watch.row()?;
@@ -53,13 +51,11 @@ fn watch_events<H: Host, W: Watch>(
     arena: &mut [u8],
     watch: &mut W,
 ) -> Result<(), W::Error>
-    requires sound { IsSound H.Host.meaning session.old }
-    requires holds { HoldsRow H.Host.meaning session.old arena.old }
-    requires ready { passes session.old arena.old ≡ true }
+    requires { Ready H.Host.meaning session.old arena.old }
     ensures { (said : List Said) → W.Watch.heard watch.old said → OnOk result (W.Watch.heard watch.new (said ++ events_said (pairs_of (table_of session.old)) (length arena.old) (H.Host.meaning session.old.host).coming)) }
 {
     loop {
-        match session.fetch(arena) {
+        match fetch_next(session, arena) {
             Ok(Fetch::Row) => watch_row(session, arena, watch)?,
             Ok(Fetch::End) => return watch.end(),
             Err(fault) => watch.refused(fault)?,

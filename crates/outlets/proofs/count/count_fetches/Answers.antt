@@ -1,69 +1,33 @@
-use Rattle.std.proofs.Common.{◌≡◌, length, Ok, sym, ap, ◌∙◌, subst, rules}
-use Rattle.rows.specs.Standing.{pairs_of}
-use Rattle.session.specs.Sessions.{table_of}
-use Rattle.session.specs.declared.state.Session.{Session}
-use Rattle.outlets.proofs.Fetching.{stepped, shorter, fault_came}
-use Rattle.outlets.proofs.Counting.{Counting, counted_row, counted_failure, counted_refusal}
+use Rattle.std.proofs.Common.{Ok, refl, sym, ap, ◌∙◌}
+use Rattle.going.proofs.Fetched.{shorter}
+use Rattle.outlets.proofs.Counting.{row_counted, failure_counted, refusal_counted, counted_all}
 use Rattle.outlets.proofs.count.count_fetches.Goals as goal
 
 pub loop-counts-preserved-in-Ok-Row : goal.loop-counts-preserved-in-Ok-Row
 loop-counts-preserved-in-Ok-Row g c =
-    let s = c.loop-counts.session in let s' = c.fetch.new.self in
-    let m = g.H.Host.meaning s.host in let m' = g.H.Host.meaning s'.host in
-    let a = c.loop-counts.arena in let a' = c.fetch.new.arena in
-    let long : length a' ≡ length a = search rules in
-    let pairs = pairs_of (table_of c.args.session.now) in let n = length c.args.arena.now in
-    let e = c.fetch.ensures in
-    let step =
-    stepped pairs n m m' s s' a a' long (ap (λ (x : Session g.row.H.Denot). g.H.Host.meaning x.host)) c.loop-counts.invariant.stands
-    c.fetch.result e.answer e.unchecked e.after e.sound e.holds in
-    let coming = (g.H.Host.meaning c.args.session.now.host).coming in
-    let counts = c.loop-counts.counts in
-    subst (λ k. Counting pairs n coming (record { shown = k; refused = counts.refused; failures = counts.failures }) m' s' a') (sym c.saturating_add.ensures)
-    (counted_row pairs n coming counts m m' s s' a a' c.loop-counts.invariant c.fetch.result step (c.in-Ok-Row.is ∙ ap Ok c.in-Ok-Row.field-0-is))
+    let so_far = c.loop-counts.invariant in
+    row_counted _ _ _ _ c.loop-counts.counts _ _ _ _ so_far _ (c.in-Ok-Row.ensures _ _ _ so_far.going) (ap Ok c.in-Ok-Row.field-0-is) _ c.saturating_add.ensures
 
 pub loop-counts-preserved-in-Some : goal.loop-counts-preserved-in-Some
 loop-counts-preserved-in-Some g c =
-    let s = c.loop-counts.session in let s' = c.fetch.new.self in
-    let m = g.H.Host.meaning s.host in let m' = g.H.Host.meaning s'.host in
-    let a = c.loop-counts.arena in let a' = c.fetch.new.arena in
-    let long : length a' ≡ length a = search rules in
-    let pairs = pairs_of (table_of c.args.session.now) in let n = length c.args.arena.now in
-    let e = c.fetch.ensures in
-    let step =
-    stepped pairs n m m' s s' a a' long (ap (λ (x : Session g.row.H.Denot). g.H.Host.meaning x.host)) c.loop-counts.invariant.stands
-    c.fetch.result e.answer e.unchecked e.after e.sound e.holds in
-    let coming = (g.H.Host.meaning c.args.session.now.host).coming in
-    let counts = c.loop-counts.counts in
-    subst (λ k. Counting pairs n coming (record { shown = counts.shown; refused = counts.refused; failures = k }) m' s' a') (sym c.saturating_add-in-Some.ensures)
-    (counted_failure pairs n coming counts m m' s s' a a' c.loop-counts.invariant c.fetch.result step c.in-Err.fault c.in-Err.is c.in-Some.field-0 (sym c.host_error.ensures ∙ c.in-Some.is))
+    let so_far = c.loop-counts.invariant in
+    failure_counted _ _ _ _ c.loop-counts.counts _ _ _ _ so_far _ (c.in-Err.ensures _ _ _ so_far.going) c.in-Err.fault refl c.in-Some.field-0 (sym c.host_error.ensures ∙ c.in-Some.is) _ c.saturating_add-in-Some.ensures
 
 pub loop-counts-preserved : goal.loop-counts-preserved
 loop-counts-preserved g c =
-    let s = c.loop-counts.session in let s' = c.fetch.new.self in
-    let m = g.H.Host.meaning s.host in let m' = g.H.Host.meaning s'.host in
-    let a = c.loop-counts.arena in let a' = c.fetch.new.arena in
-    let long : length a' ≡ length a = search rules in
-    let pairs = pairs_of (table_of c.args.session.now) in let n = length c.args.arena.now in
-    let e = c.fetch.ensures in
-    let step =
-    stepped pairs n m m' s s' a a' long (ap (λ (x : Session g.row.H.Denot). g.H.Host.meaning x.host)) c.loop-counts.invariant.stands
-    c.fetch.result e.answer e.unchecked e.after e.sound e.holds in
-    let coming = (g.H.Host.meaning c.args.session.now.host).coming in
-    let counts = c.loop-counts.counts in
-    subst (λ k. Counting pairs n coming (record { shown = counts.shown; refused = k; failures = counts.failures }) m' s' a') (sym c.saturating_add-in-None.ensures)
-    (counted_refusal pairs n coming counts m m' s s' a a' c.loop-counts.invariant c.fetch.result step c.in-Err.fault c.in-Err.is (sym c.host_error.ensures ∙ c.in-None.is))
+    let so_far = c.loop-counts.invariant in
+    refusal_counted _ _ _ _ c.loop-counts.counts _ _ _ _ so_far _ (c.in-Err.ensures _ _ _ so_far.going) c.in-Err.fault refl (sym c.host_error.ensures ∙ c.in-None.is) _ c.saturating_add-in-None.ensures
+
+pub loop-counts-smaller-in-Ok-Row : goal.loop-counts-smaller-in-Ok-Row
+loop-counts-smaller-in-Ok-Row g c = shorter ((c.in-Ok-Row.ensures _ _ _ c.loop-counts.invariant.going).row (ap Ok c.in-Ok-Row.field-0-is)).next
+
+pub loop-counts-smaller-in-Some : goal.loop-counts-smaller-in-Some
+loop-counts-smaller-in-Some g c = shorter ((c.in-Err.ensures _ _ _ c.loop-counts.invariant.going).refused c.in-Err.fault refl).next
 
 pub loop-counts-smaller : goal.loop-counts-smaller
-loop-counts-smaller g c =
-    let s = c.loop-counts.session in let s' = c.fetch.new.self in
-    let m = g.H.Host.meaning s.host in let m' = g.H.Host.meaning s'.host in
-    let a = c.loop-counts.arena in let a' = c.fetch.new.arena in
-    let long : length a' ≡ length a = search rules in
-    let pairs = pairs_of (table_of c.args.session.now) in let n = length c.args.arena.now in
-    let e = c.fetch.ensures in
-    let step =
-    stepped pairs n m m' s s' a a' long (ap (λ (x : Session g.row.H.Denot). g.H.Host.meaning x.host)) c.loop-counts.invariant.stands
-    c.fetch.result e.answer e.unchecked e.after e.sound e.holds in
-    let w = fault_came pairs n m m' s' a' c.fetch.result step c.in-Err.fault c.in-Err.is in
-    shorter m.coming w.is w.rest m'.coming w.next w.left
+loop-counts-smaller g c = shorter ((c.in-Err.ensures _ _ _ c.loop-counts.invariant.going).refused c.in-Err.fault refl).next
+
+pub returns-in-Ok-End : goal.returns-in-Ok-End
+returns-in-Ok-End g c =
+    let so_far = c.loop-counts.invariant in
+    counted_all _ _ _ _ _ _ _ _ _ so_far _ (c.in-Ok-End.ensures _ _ _ so_far.going) (ap Ok c.in-Ok-End.field-0-is)

@@ -6,8 +6,8 @@ use Rattle.outlets.proofs.count.count_fetches.Given as goal
 
 abbrev pub invariant-loop-counts : goal.invariant-loop-counts
 invariant-loop-counts g l =
-    Counting (pairs_of (table_of l.initial.session)) (length l.initial.arena) (g.H.Host.meaning l.initial.session.host).coming
-    l.counts (g.H.Host.meaning l.session.host) l.session l.arena
+    let means = g.H.Host.meaning in let s = l.initial.session in
+    Counting means (means s.host) (pairs_of (table_of s)) (length l.initial.arena) l.counts l.session l.arena
 
 abbrev pub decreases-loop-counts : goal.decreases-loop-counts
 decreases-loop-counts g l = length (g.H.Host.meaning l.session.host).coming

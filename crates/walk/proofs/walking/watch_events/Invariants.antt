@@ -1,9 +1,13 @@
 use Rattle.std.proofs.Common.{length}
-use Rattle.walk.proofs.Going.{Going}
+use Rattle.rows.specs.Standing.{pairs_of}
+use Rattle.session.specs.Sessions.{table_of}
+use Rattle.walk.proofs.Saying.{Along}
 use Rattle.walk.proofs.walking.watch_events.Given as goal
 
 abbrev pub invariant-loop-session : goal.invariant-loop-session
-invariant-loop-session g l = Going g.H.Host.meaning g.W.Watch.heard l.fn.session l.session l.fn.arena l.arena l.fn.watch l.watch
+invariant-loop-session g l =
+    let means = g.H.Host.meaning in let s = l.fn.session in
+    Along means g.W.Watch.heard (means s.host) (pairs_of (table_of s)) (length l.fn.arena) l.fn.watch l.session l.arena l.watch
 
 abbrev pub decreases-loop-session : goal.decreases-loop-session
 decreases-loop-session g l = length (g.H.Host.meaning l.session.host).coming
