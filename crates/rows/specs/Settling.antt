@@ -113,6 +113,11 @@ abbrev pub GrewAs : Meaning → Row → ColumnTable → List ℕ → Result Colu
 GrewAs m r old a (Ok t) m' a' = Grew m r old a t m' a'
 GrewAs m r old a (Err f) m' a' = NotGrown m old a f m' a'
 
+-- the same, with the new table in the place of the old one
+abbrev pub RoomMade : {X : Type 0} → Meaning → Row → ColumnTable → List ℕ → Result X Fault → Meaning → ColumnTable → List ℕ → Type 0
+RoomMade m r old a (Ok x) m' t a' = Grew m r old a t m' a'
+RoomMade m r old a (Err f) m' t a' = (t ≡ old) × NotGrown m old a f m' a'
+
 -- the row as a whole
 
 abbrev pub row_answer : Row → ColumnTable → Result Fetch Fault

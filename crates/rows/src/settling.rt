@@ -3,7 +3,7 @@ ghost use Rattle.std.specs.Prelude.{◌≡◌, ℕ, ◌<◌, ◌≤◌, length, 
 ghost use Rattle.host.specs.declared.records.BindRecord.{BindRecord};
 ghost use Rattle.host.specs.Meanings.{Row};
 ghost use Rattle.layout.specs.Tables.{AllFit, NoneLost, LowestLost, Grown, SamePlaces};
-ghost use Rattle.rows.specs.Settling.{RowGot, Settled, RowIn, GrewAs, Half, WholeAs, PartInto};
+ghost use Rattle.rows.specs.Settling.{RowGot, Settled, RowIn, GrewAs, RoomMade, Half, WholeAs, PartInto};
 
 use host::{Host, Report, bind_all};
 use layout::ColumnTable;
@@ -26,9 +26,20 @@ pub fn populate_dynamic_buffers<H: Host>(
         return Err(Fault::new(Refusal::NumericOverflow).at(k as u8));
     }
     if !table.fits() {
-        let new = grow(host, table, arena)?;
-        *table = new;
+        make_room(host, table, arena)?;
     }
+    Ok(())
+}
+
+// Grows, and puts the table of the new places in the place of the old one. (Never inlined: the room for that table would be zeroed for every row.)
+#[cold]
+#[inline(never)]
+fn make_room<H: Host>(host: &mut H, table: &mut ColumnTable, arena: &mut [u8]) -> Result<(), Fault>
+    ensures fit { OnOk result (AllFit table.new) }
+    ensures came { (row : Row) → RowIn (H.Host.meaning host.old) row table.old arena.old → NoneLost table.old → RoomMade (H.Host.meaning host.old) row table.old arena.old result (H.Host.meaning host.new) table.new arena.new }
+{
+    let new = grow(host, table, arena)?;
+    *table = new;
     Ok(())
 }
 

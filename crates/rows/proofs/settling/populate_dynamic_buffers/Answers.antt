@@ -1,7 +1,9 @@
-use Rattle.std.proofs.Common.{ap, ◌∙◌, arith}
+use Rattle.std.proofs.Common.{ap, ◌∙◌, arith, sym, subst}
 use Rattle.std.proofs.lemmas.Result.{err_from_is_err_and}
 use Rattle.mysql.specs.declared.fault.Fault.{Fault}
 use Rattle.mysql.specs.Faults.{at_column}
+use Rattle.layout.specs.declared.table.ColumnTable.{ColumnTable}
+use Rattle.rows.specs.Settling.{Refuses}
 use Rattle.rows.proofs.Settles.{in_row, refuses_lost, refuses_long, shows_as_it_is, shows_grown}
 use Rattle.rows.proofs.settling.populate_dynamic_buffers.Goals as goal
 
@@ -27,20 +29,17 @@ returns-else-not-fits g c = record {
       shows_as_it_is m row t rs a got u written c.note_all.ensures.places c.in_default.ensures (c.fits.ensures.yes c.if-not-fits.false);
 }
 
-pub returns-in_ok-new : goal.returns-in_ok-new
-returns-in_ok-new g c = record {
-  fit = c.in_ok-new.ensures.fit;
-  came = λ row got.
-      let m = g.H.Host.meaning c.args.host.now in
-      let t = c.args.table.now in let rs = c.args.reports.now in let a = c.args.arena.now in
-      let u = c.note_all.new.self in
-      let written = c.note_all.ensures.noted (omega (arith, got.as_many)) in
-      let grew = c.in_ok-new.ensures.came row (in_row m row t rs a got u written c.note_all.ensures.places) c.in_default.ensures in
-      shows_grown m row t rs a got u written c.note_all.ensures.places c.in_default.ensures c.in_ok-new.new (g.H.Host.meaning c.grow.new.host) c.grow.new.arena grew;
-}
+pub returns-in_ok-make_room-clause-came : goal.returns-in_ok-make_room-clause-came
+returns-in_ok-make_room-clause-came g c = λ row got.
+    let m = g.H.Host.meaning c.args.host.now in
+    let t = c.args.table.now in let rs = c.args.reports.now in let a = c.args.arena.now in
+    let u = c.note_all.new.self in
+    let written = c.note_all.ensures.noted (omega (arith, got.as_many)) in
+    let grew = c.in_ok-make_room.ensures.came row (in_row m row t rs a got u written c.note_all.ensures.places) c.in_default.ensures in
+    shows_grown m row t rs a got u written c.note_all.ensures.places c.in_default.ensures c.make_room.new.table (g.H.Host.meaning c.make_room.new.host) c.make_room.new.arena grew
 
-pub returns-in_err-new : goal.returns-in_err-new
-returns-in_err-new g c =
+pub returns-in_err-make_room : goal.returns-in_err-make_room
+returns-in_err-make_room g c =
     let p = err_from_is_err_and c.from_residual.result c.from_residual.ensures.1 in
     let m = g.H.Host.meaning c.args.host.now in
     let t = c.args.table.now in let rs = c.args.reports.now in let a = c.args.arena.now in
@@ -50,6 +49,6 @@ returns-in_err-new g c =
       fit = tt;
       came = λ row got.
           let written = c.note_all.ensures.noted (omega (arith, got.as_many)) in
-          let stayed = c.in_err-new.ensures.came row (in_row m row t rs a got u written c.note_all.ensures.places) c.in_default.ensures in
-          refuses_long m row t rs a got u written c.note_all.ensures.places c.in_default.ensures _ (g.H.Host.meaning c.grow.new.host) c.grow.new.arena stayed;
+          let stayed = c.in_err-make_room.ensures.came row (in_row m row t rs a got u written c.note_all.ensures.places) c.in_default.ensures in
+          subst (λ (x : ColumnTable). Refuses m row t a c.in_err-make_room.field-0.0 (g.H.Host.meaning c.make_room.new.host) x c.make_room.new.arena) (sym stayed.0) (refuses_long m row t rs a got u written c.note_all.ensures.places c.in_default.ensures _ (g.H.Host.meaning c.make_room.new.host) c.make_room.new.arena stayed.1);
     })
