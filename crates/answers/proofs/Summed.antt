@@ -2,7 +2,7 @@
 use Rattle.std.proofs.Common.{◌≡◌, ℕ, ◌+◌, Bool, false, cond, List, [], ◌∷◌, ◌++◌, length, length-append, Result, Ok, Err, sym, ap, ◌∙◌, subst, arith}
 use Rattle.std.specs.Result.{OnOk}
 use Rattle.std.proofs.lemmas.List.{append_assoc, append-nil}
-use Rattle.recorded.specs.Checksums.{Has}
+use Rattle.checksum.specs.Checksums.{IsOf}
 use Rattle.walk.specs.Walks.{Said}
 use Rattle.answers.specs.declared.text.Text.{Text}
 use Rattle.answers.specs.declared.trays.Sum.{Sum}
@@ -24,7 +24,7 @@ nulls_snoc (y ∷ ys) x = let h = nulls_snoc ys x in omega (arith, h)
 -- one thing more
 pub more : (sum sum' : Sum) (xs : List Said) (x : Said) → Holds sum xs
     → sum'.nulls ≡ capped (sum.nulls + cond (is_null x) 1 0) → sum'.bytes ≡ capped (sum.bytes + length (bytes_of x))
-    → Has sum'.checksum (bytes_in xs ++ bytes_of x) → sum'.trouble.bytes.items ≡ sum.trouble.bytes.items ++ trouble_of x → Holds sum' (xs ++ x ∷ [])
+    → IsOf sum'.checksum (bytes_in xs ++ bytes_of x) → sum'.trouble.bytes.items ≡ sum.trouble.bytes.items ++ trouble_of x → Holds sum' (xs ++ x ∷ [])
 more sum sum' xs x h n b c t =
     let ns = nulls_snoc xs x in
     let bs : length (bytes_in (xs ++ x ∷ [])) ≡ length (bytes_in xs) + length (bytes_of x) = ap length (bytes_snoc xs x) ∙ length-append (bytes_in xs) (bytes_of x) in
@@ -33,7 +33,7 @@ more sum sum' xs x h n b c t =
     record {
       nulls = omega (arith, ns, hn, n);
       bytes = omega (arith, bs, hb, b);
-      checksum = subst (λ (ys : List ℕ). Has sum'.checksum ys) (sym (bytes_snoc xs x)) c;
+      checksum = subst (λ (ys : List ℕ). IsOf sum'.checksum ys) (sym (bytes_snoc xs x)) c;
       trouble = t ∙ ap (λ (ys : List ℕ). ys ++ trouble_of x) h.trouble ∙ sym (trouble_snoc xs x);
     }
 
@@ -46,7 +46,7 @@ quiet sum trouble xs x n b t h =
     let one : ◌≡◌ {A = ℕ} (cond (is_null x) 1 0) 0 = ap (λ (z : Bool). cond z 1 0) n in
     let none : length (bytes_of x) ≡ 0 = ap length b in
     more sum _ xs x h (omega (arith, hn, one)) (omega (arith, hb, none))
-    (subst (λ (ys : List ℕ). Has sum.checksum (bytes_in xs ++ ys)) (sym b) (subst (λ (ys : List ℕ). Has sum.checksum ys) (sym (append-nil (bytes_in xs))) h.checksum)) t
+    (subst (λ (ys : List ℕ). IsOf sum.checksum (bytes_in xs ++ ys)) (sym b) (subst (λ (ys : List ℕ). IsOf sum.checksum ys) (sym (append-nil (bytes_in xs))) h.checksum)) t
 
 -- the same, where it was put into words
 pub put : {E : Type 0} (r : Result (Unit {0}) E) (sum : Sum) (trouble : Text) (x : Said) → is_null x ≡ false → bytes_of x ≡ [] → OnOk r (trouble.bytes.items ≡ sum.trouble.bytes.items ++ trouble_of x) → (xs : List Said) → Holds sum xs

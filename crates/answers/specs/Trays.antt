@@ -1,6 +1,6 @@
 -- The answers to questions of a tray: what all of its rows have, in numbers; or what was refused.
 use Rattle.std.specs.Prelude.{ℕ, ◌+◌, ◌-◌, ◌^◌, min, Bool, true, false, cond, List, [], ◌∷◌, ◌++◌, length, Some, None, Ok, Err}
-use Rattle.recorded.specs.Checksums.{checksum}
+use Rattle.checksum.specs.Crc.{crc32}
 use Rattle.walk.specs.Walks.{Said, unopened, a_row, a_column, refused, the_end}
 use Rattle.answers.specs.Texts.{number}
 use Rattle.answers.specs.Events.{said_word}
@@ -52,7 +52,7 @@ capped n = min n (2 ^ 64 - 1)
 
 -- how many columns are null, how many bytes the others have, and the checksum of all these; unless something was refused
 abbrev pub numbers : List Said → List ℕ
-numbers said = number (capped (nulls_in said)) ++ (number (capped (length (bytes_in said))) ++ number (checksum (bytes_in said)))
+numbers said = number (capped (nulls_in said)) ++ (number (capped (length (bytes_in said))) ++ number (crc32 (bytes_in said)))
 
 abbrev pub or_trouble : List ℕ → List ℕ → List ℕ
 or_trouble words [] = words

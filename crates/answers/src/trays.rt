@@ -1,8 +1,8 @@
 // Answers of a tray: what all of its rows have, in numbers.
 use crate::text::Text;
+use checksum::Crc32;
 use mysql::Fault;
 use readings::MysqlValue;
-use recorded::Checksum;
 use std::alloc::{AllocError, Global};
 use walk::Watch;
 
@@ -11,7 +11,7 @@ use walk::Watch;
 pub(crate) struct Sum {
     pub(crate) nulls: u64,
     pub(crate) bytes: u64,
-    pub(crate) checksum: Checksum,
+    pub(crate) checksum: Crc32,
     pub(crate) trouble: Text,
 }
 
@@ -25,7 +25,7 @@ impl Sum {
         Sum {
             nulls: 0,
             bytes: 0,
-            checksum: Checksum::new(),
+            checksum: Crc32::new(),
             trouble: Text::new(heap),
         }
     }
@@ -73,7 +73,7 @@ impl Watch for Sum {
     fn value(&mut self, value: MysqlValue) -> Result<(), AllocError> {
         let bytes = value.as_bytes();
         self.bytes = self.bytes.saturating_add(bytes.len() as u64);
-        self.checksum.add(bytes);
+        self.checksum.update(bytes);
         Ok(())
     }
 

@@ -1,3 +1,2 @@
-pub mod Checksums
 pub mod Kinds
 pub mod Lines

@@ -2,15 +2,12 @@
 #![tactic(auto)]
 
 mod buffers;
-mod crc;
-mod division;
 mod question;
 mod types;
 mod unread;
 mod words;
 
 pub use buffers::Buffers;
-pub use crc::Checksum;
 pub use question::{Kind, Question};
 pub use types::type_numbered;
 pub use unread::Unread;

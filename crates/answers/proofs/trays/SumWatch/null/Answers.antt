@@ -1,6 +1,6 @@
 use Rattle.std.proofs.Common.{Ok, None, sym, arith, subst, List, ℕ}
 use Rattle.std.proofs.lemmas.List.{append-nil}
-use Rattle.recorded.specs.Checksums.{Has}
+use Rattle.checksum.specs.Checksums.{IsOf}
 use Rattle.walk.specs.Walks.{a_column}
 use Rattle.answers.specs.Trays.{bytes_in}
 use Rattle.answers.proofs.Summed.{more}
@@ -11,4 +11,4 @@ returns c = λ said h.
     let s = c.args.self.now in
     let hb = h.bytes in
     more s _ said (a_column (Ok None)) h c.saturating_add-self.ensures (omega (arith, hb))
-    (subst (λ (ys : List ℕ). Has s.checksum ys) (sym (append-nil (bytes_in said))) h.checksum) (sym (append-nil s.trouble.bytes.items))
+    (subst (λ (ys : List ℕ). IsOf s.checksum ys) (sym (append-nil (bytes_in said))) h.checksum) (sym (append-nil s.trouble.bytes.items))

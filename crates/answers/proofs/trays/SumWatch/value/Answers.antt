@@ -1,6 +1,6 @@
-use Rattle.std.proofs.Common.{Ok, Some, ℕ, ◌+◌, List, ◌++◌, length, sym, ap, ◌∙◌, arith}
+use Rattle.std.proofs.Common.{Ok, Some, ℕ, ◌+◌, List, ◌++◌, length, sym, ap, ◌∙◌, subst, arith}
 use Rattle.std.proofs.lemmas.List.{append-nil}
-use Rattle.recorded.specs.Checksums.{remainder}
+use Rattle.checksum.specs.Checksums.{IsOf}
 use Rattle.walk.specs.Walks.{a_column}
 use Rattle.answers.specs.Trays.{bytes_in, capped}
 use Rattle.answers.proofs.Summed.{more}
@@ -12,4 +12,4 @@ returns c = λ said h.
     let hn = h.nulls in
     more s _ said (a_column (Ok (Some (record { tpe = c.args.value.tpe; bytes = c.args.value.raw.now })))) h (omega (arith, hn))
     (c.saturating_add-self.ensures ∙ ap (λ (ys : List ℕ). capped (s.bytes + length ys)) c.as_bytes-bytes.ensures)
-    (c.add.ensures (bytes_in said) h.checksum ∙ ap (λ (ys : List ℕ). remainder (bytes_in said ++ ys)) c.as_bytes-bytes.ensures) (sym (append-nil s.trouble.bytes.items))
+    (subst (λ (ys : List ℕ). IsOf c.update.new.self (bytes_in said ++ ys)) c.as_bytes-bytes.ensures (c.update.ensures (bytes_in said) h.checksum)) (sym (append-nil s.trouble.bytes.items))
