@@ -50,9 +50,9 @@ module _ {H : Type 0} (means : H → Meaning) (m : Meaning) (pairs : List Column
 
     -- what came, by the answer
     abbrev Came : Result Fetch Fault → Type 0
-    Came (Ok fetch.Row) = RowShown means m pairs n s s'
-    Came (Ok fetch.End) = AtEnd means m pairs n s s'
-    Came (Err f) = Refused means m pairs n f s s'
+    Came (Ok fetch.Row) = RowShown means pairs n s s'
+    Came (Ok fetch.End) = AtEnd means s s'
+    Came (Err f) = Refused means pairs n f s s'
 
     by_event : (coming : List Event) (r : Result Fetch Fault) → (means s.host).coming ≡ coming → r ≡ fetched pairs n coming → AfterFetch coming r (means s.host) (means s'.host) s s' a a' → Going means m pairs n s' a' × Came r
     by_event [] r next due w = (

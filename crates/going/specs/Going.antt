@@ -29,40 +29,39 @@ module _ {H : Type 0} (means : H → Meaning) where
     pub sound : IsSound means s
     pub holds : HoldsRow means s a
 
-  module _ (m : Meaning) (pairs : List Column) (arena : ℕ) where
-    -- It goes through the result of a host that meant m: it is ready, bound to these columns over an arena of this length, and m's columns and
-    -- codes are kept. The events to come are those that its host now has.
-    pub record Going (s : Session H) (a : List ℕ) : Type 0 where
-      pub now : Ready s a
-      pub bound : pairs_of (table_of s) ≡ pairs
-      pub long : length a ≡ arena
-      pub kept : Kept m (means s.host)
+  -- It goes through the result of a host that meant m: it is ready, bound to these columns over an arena of this length, and m's columns and codes
+  -- are kept. The events to come are those that its host now has.
+  pub record Going (m : Meaning) (pairs : List Column) (arena : ℕ) (s : Session H) (a : List ℕ) : Type 0 where
+    pub now : Ready s a
+    pub bound : pairs_of (table_of s) ≡ pairs
+    pub long : length a ≡ arena
+    pub kept : Kept m (means s.host)
 
-    -- a row was next, and is shown
-    pub record RowShown (s s' : Session H) : Type 0 where
-      pub is : Row
-      pub next : (means s.host).coming ≡ row is ∷ (means s'.host).coming
-      pub answer : fetched pairs arena (row is ∷ []) ≡ Ok fetch.Row
-      pub shown : shown_row (means s'.host) s' ≡ Some is
+  -- a row was next, and is shown
+  pub record RowShown (pairs : List Column) (arena : ℕ) (s s' : Session H) : Type 0 where
+    pub is : Row
+    pub next : (means s.host).coming ≡ row is ∷ (means s'.host).coming
+    pub answer : fetched pairs arena (row is ∷ []) ≡ Ok fetch.Row
+    pub shown : shown_row (means s'.host) s' ≡ Some is
 
-    -- no event was left
-    pub record AtEnd (s s' : Session H) : Type 0 where
-      pub none : (means s.host).coming ≡ []
-      pub still : (means s'.host).coming ≡ []
-      pub shown : shown_row (means s'.host) s' ≡ None
+  -- no event was left
+  pub record AtEnd (s s' : Session H) : Type 0 where
+    pub none : (means s.host).coming ≡ []
+    pub still : (means s'.host).coming ≡ []
+    pub shown : shown_row (means s'.host) s' ≡ None
 
-    -- a row was next, and is refused; or a failure
-    pub record Refused (f : Fault) (s s' : Session H) : Type 0 where
-      pub is : Event
-      pub next : (means s.host).coming ≡ is ∷ (means s'.host).coming
-      pub answer : fetched pairs arena (is ∷ []) ≡ Err f
-      pub fault : FaultOf is f
-      pub shown : shown_row (means s'.host) s' ≡ None
+  -- a row was next, and is refused; or a failure
+  pub record Refused (pairs : List Column) (arena : ℕ) (f : Fault) (s s' : Session H) : Type 0 where
+    pub is : Event
+    pub next : (means s.host).coming ≡ is ∷ (means s'.host).coming
+    pub answer : fetched pairs arena (is ∷ []) ≡ Err f
+    pub fault : FaultOf is f
+    pub shown : shown_row (means s'.host) s' ≡ None
 
-    -- what a fetch answers and leaves: the session goes on, and the event that was next is gone
-    pub record Leaves (r : Result Fetch Fault) (s s' : Session H) (a' : List ℕ) : Type 0 where
-      pub answer : r ≡ fetched pairs arena (means s.host).coming
-      pub going : Going s' a'
-      pub row : r ≡ Ok fetch.Row → RowShown s s'
-      pub end : r ≡ Ok fetch.End → AtEnd s s'
-      pub refused : (f : Fault) → r ≡ Err f → Refused f s s'
+  -- what a fetch answers and leaves: the session goes on, and the event that was next is gone
+  pub record Leaves (m : Meaning) (pairs : List Column) (arena : ℕ) (r : Result Fetch Fault) (s s' : Session H) (a' : List ℕ) : Type 0 where
+    pub answer : r ≡ fetched pairs arena (means s.host).coming
+    pub going : Going m pairs arena s' a'
+    pub row : r ≡ Ok fetch.Row → RowShown pairs arena s s'
+    pub end : r ≡ Ok fetch.End → AtEnd s s'
+    pub refused : (f : Fault) → r ≡ Err f → Refused pairs arena f s s'

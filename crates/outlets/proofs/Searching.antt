@@ -51,10 +51,10 @@ module _ {H : Type 0} (means : H → Meaning) (m : Meaning) (pairs : List Column
     }
 
     -- what is read of the row that is shown
-    read_is : (shown : RowShown means m pairs n s s') (k : ℕ) → row_due means s' k ≡ read pairs (Some shown.is) k
+    read_is : (shown : RowShown means pairs n s s') (k : ℕ) → row_due means s' k ≡ read pairs (Some shown.is) k
     read_is shown k = rw (w.going.bound, shown.shown) refl
 
-    class_is : (shown : RowShown means m pairs n s s') → read_as (integer (2 ^ 31)) 0 (row_due means s' 0) ≡ read_as (integer (2 ^ 31)) 0 (read pairs (Some shown.is) 0)
+    class_is : (shown : RowShown means pairs n s s') → read_as (integer (2 ^ 31)) 0 (row_due means s' 0) ≡ read_as (integer (2 ^ 31)) 0 (read pairs (Some shown.is) 0)
     class_is shown = ap (read_as (integer (2 ^ 31)) 0) (read_is shown 0)
 
     pub another_class : r ≡ Ok fetch.Row → (read_as (integer (2 ^ 31)) 0 (row_due means s' 0) ≡ Ok class → ⊥) → Searching into s' a' into'
