@@ -98,18 +98,26 @@ pub fn round_trip(tpe: MysqlType) -> Result<MysqlType, Fault>
     MysqlType::try_from(<(u8, u32)>::from(tpe))
 }
 
-// How many bytes a value of a code takes, where all of its values take the same.
+/// How many bytes a value of each code takes, by the code; 0 where not all of its values take the same.
+const SIZES: [u8; 256] = [
+    0, 1, 2, 4, 4, 8, 0, 48, 8, 4, 48, 48, 48, 2, 0, 0, 0, 0, 0, 0, 0, 0, 0, 0, 0, 0, 0, 0, 0, 0,
+    0, 0, 0, 0, 0, 0, 0, 0, 0, 0, 0, 0, 0, 0, 0, 0, 0, 0, 0, 0, 0, 0, 0, 0, 0, 0, 0, 0, 0, 0, 0, 0,
+    0, 0, 0, 0, 0, 0, 0, 0, 0, 0, 0, 0, 0, 0, 0, 0, 0, 0, 0, 0, 0, 0, 0, 0, 0, 0, 0, 0, 0, 0, 0, 0,
+    0, 0, 0, 0, 0, 0, 0, 0, 0, 0, 0, 0, 0, 0, 0, 0, 0, 0, 0, 0, 0, 0, 0, 0, 0, 0, 0, 0, 0, 0, 0, 0,
+    0, 0, 0, 0, 0, 0, 0, 0, 0, 0, 0, 0, 0, 0, 0, 0, 0, 0, 0, 0, 0, 0, 0, 0, 0, 0, 0, 0, 0, 0, 0, 0,
+    0, 0, 0, 0, 0, 0, 0, 0, 0, 0, 0, 0, 0, 0, 0, 0, 0, 0, 0, 0, 0, 0, 0, 0, 0, 0, 0, 0, 0, 0, 0, 0,
+    0, 0, 0, 0, 0, 0, 0, 0, 0, 0, 0, 0, 0, 0, 0, 0, 0, 0, 0, 0, 0, 0, 0, 0, 0, 0, 0, 0, 0, 0, 0, 0,
+    0, 0, 0, 0, 0, 0, 0, 0, 0, 0, 0, 0, 0, 0, 0, 0, 0, 0, 0, 0, 0, 0, 0, 0, 0, 0, 0, 0, 0, 0, 0, 0,
+    0, 0,
+];
+
+/// How many bytes a value of a code takes; none where not all of its values take the same (docs/types.md).
+#[inline(always)]
 pub fn known_buffer_size_for_ffi_type(code: u8) -> Option<usize>
     ensures { result ≡ size_of code }
 {
-    match code {
-        MYSQL_TYPE_TINY => Some(1),
-        MYSQL_TYPE_SHORT | MYSQL_TYPE_YEAR => Some(2),
-        MYSQL_TYPE_LONG | MYSQL_TYPE_FLOAT | MYSQL_TYPE_INT24 => Some(4),
-        MYSQL_TYPE_DOUBLE | MYSQL_TYPE_LONGLONG => Some(8),
-        MYSQL_TYPE_TIMESTAMP | MYSQL_TYPE_DATE..=MYSQL_TYPE_DATETIME => Some(MYSQL_TIME_SIZE),
-        _ => None,
-    }
+    let size = SIZES[code as usize];
+    if size == 0 { None } else { Some(size as usize) }
 }
 
 // A column's flags, unless they have a bit that no flag is known for.
