@@ -5,3 +5,4 @@ pub mod Fitting
 pub mod Counted
 pub mod Whole
 pub mod OnBytes
+pub mod Stands

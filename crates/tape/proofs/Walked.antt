@@ -13,6 +13,10 @@ use Rattle.tape.proofs.Steps.{never, next_split}
 abbrev pub tail : List ℕ → List ℕ
 tail b = take (length b - 1) (drop 1 b)
 
+pub first_and_tail : (t : ℕ) (b : List ℕ) → 1 ≤ length b → get_or b 0 0 ≡ t → b ≡ t ∷ tail b
+first_and_tail t [] l e = absurd (omega arith)
+first_and_tail t (a ∷ r) l e = ap (λ k. k ∷ r) e ∙ ap (λ u. t ∷ u) (sym (take_rest (a ∷ r) 1))
+
 -- columns
 
 pub columns_first : (b : List ℕ) (c : Column) (r : List ℕ) → take_column b ≡ taken c r → (columns_in b ≡ c ∷ columns_in r) × (length b ≡ length r + 5)
@@ -60,8 +64,7 @@ fields_in_is (c ∷ cs) bs fs r h =
 -- events
 
 pub event_tag : (cs : List Column) (t : ℕ) (b : List ℕ) → 1 ≤ length b → get_or b 0 0 ≡ t → take_event cs b ≡ event_by cs t (tail b)
-event_tag cs t [] l e = absurd (omega arith)
-event_tag cs t (a ∷ r) l e = ap (λ k. event_by cs k r) e ∙ ap (event_by cs t) (sym (take_rest (a ∷ r) 1))
+event_tag cs t b l e = ap (take_event cs) (first_and_tail t b l e)
 
 pub row_taken : (cs : List Column) (bs r : List ℕ) → left (take_fields cs bs) ≡ Some r → event_by cs 0 bs ≡ taken (row (fields_in cs bs)) r
 row_taken cs bs r h =

@@ -1,18 +1,21 @@
 -- What a recording stands for, and which bytes it is made of.
-use Rattle.std.specs.Prelude.{◌≡◌, ℕ, List, [], ◌∷◌, Some, None, Ok, Err, Option, Result}
+use Rattle.std.specs.Prelude.{◌≡◌, ℕ, ◌≤◌, List, [], ◌∷◌, length, Some, None, Ok, Err, Option, Result}
 use Rattle.mysql.specs.declared.fault.Fault.{Fault}
 use Rattle.mysql.specs.declared.fault.Refusal.TheVariants.{BrokenTape}
 use Rattle.mysql.specs.Faults.{refused}
+use Rattle.tape.specs.declared.field.Field.{Field as FieldView}
+use Rattle.tape.specs.declared.event.Row.{Row as RowView}
 use Rattle.tape.specs.declared.event.Event.{Event as EventView}
-use Rattle.tape.specs.declared.recording.Recording.{Recording}
+use Rattle.tape.specs.declared.event.Event.TheVariants as view_event
+use Rattle.tape.specs.declared.parts.Recording.{Recording}
 use Rattle.tape.specs.declared.recording.Columns.{Columns}
 use Rattle.tape.specs.declared.recording.Events.{Events}
 use Rattle.tape.specs.declared.recording.Fields.{Fields}
 use Rattle.mysql.specs.declared.bind.Column.{Column}
 use Rattle.host.specs.Fields.{Field}
-use Rattle.tape.specs.Format.{Event, Contents, TapeOf, NoTape}
+use Rattle.tape.specs.Format.{Event, row, failure, Contents, TapeOf, NoTape}
 use Rattle.tape.specs.Decode.{Taken, taken, broken}
-use Rattle.tape.specs.Views.{columns_in, events_in, row_of, event_of, EventColumned}
+use Rattle.tape.specs.Views.{columns_in, after_fields, events_in, field_of, row_of, event_of, row_event, EventColumned}
 
 -- what lies in the bytes of columns and the bytes of so many events
 abbrev pub contents_in : (columns events : List ℕ) (count : ℕ) → Contents
@@ -49,7 +52,48 @@ events_left s = events_in (columns_in s.columns.now) s.count s.bytes.now
 abbrev pub fields_left : Fields → List Field
 fields_left s = row_of s.rest
 
--- a step of going through events: the same columns stand after it, and a row that comes has the bytes of these columns
-abbrev pub GivesEvents : Events → Option EventView → Events → Type 0
-GivesEvents before None after = Gives events_left event_of before None after × (after.columns.now ≡ before.columns.now)
-GivesEvents before (Some e) after = Gives events_left event_of before (Some e) after × (after.columns.now ≡ before.columns.now) × EventColumned before.columns.now e
+-- all events that are counted stand
+abbrev pub Stand : Events → Type 0
+Stand s = length (events_left s) ≡ s.count
+
+-- an event that comes has the bytes of these columns
+abbrev pub EachColumned : List ℕ → Option EventView → Type 0
+EachColumned columns None = Unit {0}
+EachColumned columns (Some e) = EventColumned columns e
+
+-- a step of going through events: the same columns stand after it, and where all events stood, all that are left do
+pub record GivesEvents (before : Events) (e : Option EventView) (after : Events) : Type 0 where
+  pub gives : Gives events_left event_of before e after
+  pub same_columns : after.columns.now ≡ before.columns.now
+  pub columned : EachColumned before.columns.now e
+  pub stand : Stand before → Stand after
+
+-- the bytes after a row's fields
+abbrev pub bytes_after : Fields → List ℕ
+bytes_after s = after_fields (columns_in s.rest.columns.now) s.rest.bytes.now
+
+-- a step of going through fields: they end where they did
+pub record GivesFields (before : Fields) (f : Option FieldView) (after : Fields) : Type 0 where
+  pub gives : Gives fields_left field_of before f after
+  pub ends : bytes_after after ≡ bytes_after before
+
+-- this event is the next one
+abbrev pub IsNext : Events → Event → Type 0
+IsNext s e = (es : List Event) × (events_left s ≡ e ∷ es)
+
+-- a row begins what is left, and its fields are at the front of these bytes
+pub record RowNext (s : Events) (r : RowView) : Type 0 where
+  pub some : 1 ≤ s.count
+  pub columned : r.columns.now ≡ s.columns.now
+  pub first : s.bytes.now ≡ 0 ∷ r.bytes.now
+  pub next : Stand s → IsNext s (row (row_of r))
+
+-- what is next and is not taken off: no event, a row or a failure
+abbrev pub Peeks : Events → Option EventView → Type 0
+Peeks s None = events_left s ≡ []
+Peeks s (Some (view_event.Row r)) = RowNext s r
+Peeks s (Some (view_event.Failure n)) = IsNext s (failure n)
+
+-- the row that is next is taken off, by the bytes that its fields leave
+abbrev pub PassesRow : Events → RowView → List ℕ → Events → Type 0
+PassesRow before r rest after = Stand before → RowNext before r → rest ≡ after_fields (columns_in r.columns.now) r.bytes.now → GivesEvents before (Some (row_event r)) after

@@ -35,6 +35,11 @@ abbrev pub fields_in : List Column → List ℕ → List Field
 fields_in [] bs = []
 fields_in (c ∷ cs) bs = elim (take_field c.code bs) [ taken f r ↦ f ∷ fields_in cs r | broken ↦ [] ]
 
+-- the bytes after these fields
+abbrev pub after_fields : List Column → List ℕ → List ℕ
+after_fields [] bs = bs
+after_fields (c ∷ cs) bs = elim (take_field c.code bs) [ taken f r ↦ after_fields cs r | broken ↦ bs ]
+
 -- the events at the front of bytes, as far as they stand
 abbrev pub events_in : List Column → ℕ → List ℕ → List Event
 events_in cs zero bs = []
@@ -47,6 +52,10 @@ row_of r = fields_in (columns_in r.columns.now) r.bytes.now
 abbrev pub event_of : EventView → Event
 event_of (view_event.Row r) = row (row_of r)
 event_of (view_event.Failure n) = failure n
+
+-- a row as an event
+abbrev pub row_event : Row → EventView
+row_event r = view_event.Row r
 
 -- a row that was taken has the bytes of the columns that it was taken with
 abbrev pub EventColumned : List ℕ → EventView → Type 0

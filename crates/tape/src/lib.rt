@@ -3,10 +3,12 @@
 
 mod event;
 mod field;
+mod parts;
 mod recording;
 mod walk;
 
 pub use event::{Event, Row};
 pub use field::Field;
-pub use recording::{COLUMN_SIZE, Columns, Events, Fields, Recording};
+pub use parts::Recording;
+pub use recording::{COLUMN_SIZE, Columns, Events, Fields};
 pub use walk::{take_column, take_event};

@@ -1,29 +1,21 @@
 // A recorded result, and how it is gone through: its columns, its events, and the fields of a row, one after the other.
-ghost use Rattle.std.specs.Prelude.{◌≡◌, ◌^◌, ◌<◌, [], length};
+ghost use Rattle.std.specs.Prelude.{◌≡◌, ◌^◌, ◌<◌, [], length, Some};
 ghost use Rattle.std.specs.Option.{option_map};
 ghost use Rattle.tape.specs.Decode.{take_events, take_tape, left};
-ghost use Rattle.tape.specs.Views.{field_of, row_of, event_of, columns_in};
-ghost use Rattle.tape.specs.Recordings.{whole, Opened, contents_in, contents, Gives, GivesEvents, columns_left, event_columns, events_left, fields_left};
+ghost use Rattle.tape.specs.Views.{field_of, row_of, event_of, columns_in, after_fields};
+ghost use Rattle.tape.specs.Recordings.{whole, Opened, contents_in, contents, Gives, GivesEvents, GivesFields, Stand, Peeks, PassesRow, bytes_after, columns_left, event_columns, events_left, fields_left};
 ghost use Rattle.std.specs.List.{slice_get};
 ghost use Rattle.std.specs.Iterator.{at_most};
 
 use crate::event::{Event, Row};
 use crate::field::Field;
-use crate::walk::{take_column, take_event, take_field, take_u16};
+use crate::parts::Recording;
+use crate::walk::{NO_FAILURE, take_column, take_event, take_field, take_u16};
 use host::MOST_COLUMNS;
 use mysql::{Column, Fault, Refusal};
 
 // How many bytes a column takes.
 pub const COLUMN_SIZE: usize = 5;
-
-// Bytes that are a tape: those of its columns, those of its events, and how many events there are, which no slice of bytes knows. They stand
-// here and not as `Events`: a contract knows no bound of a count one struct further in, and `events` has to promise one.
-#[derive(Clone, Copy)]
-pub struct Recording<'a> {
-    pub(crate) columns: &'a [u8],
-    pub(crate) events: &'a [u8],
-    pub(crate) count: u16,
-}
 
 // The recording that bytes hold.
 fn read(bytes: &[u8]) -> Option<Recording<'_>>
@@ -79,6 +71,7 @@ impl<'a> Recording<'a> {
     pub fn events(&self) -> Events<'a>
         ensures all { events_left result ≡ (contents self.now).events }
         ensures columned { event_columns result ≡ (contents self.now).columns }
+        ensures stand { Stand result }
         ensures few { length (events_left result) < 65536 }
     {
         Events {
@@ -93,6 +86,7 @@ impl<'a> Row<'a> {
     // Its fields, one after the other.
     pub fn fields(&self) -> Fields<'a>
         ensures all { fields_left result ≡ row_of self.now }
+        ensures ends { bytes_after result ≡ after_fields (columns_in self.now.columns.now) self.now.bytes.now }
         ensures few { length (fields_left result) < 2 ^ 64 }
     {
         Fields { rest: *self }
@@ -156,9 +150,44 @@ impl<'a> Events<'a> {
         Columns { bytes }
     }
 
+    /// The next of them, which is not taken off; none where none is left. The fields of a row are not gone through: its bytes go to the end of
+    /// the recording.
+    #[inline(always)]
+    pub fn peek(&self) -> Option<Event<'a>>
+        ensures { Peeks self.now result }
+    {
+        if self.count == 0 {
+            return None;
+        }
+        let columns = self.columns;
+        match self.bytes {
+            [0, bytes @ ..] => Some(Event::Row(Row { columns, bytes })),
+            [1, number @ ..] => {
+                let (number, _) = take_u16(number)?;
+                if number == NO_FAILURE {
+                    return None;
+                }
+                Some(Event::Failure(number))
+            }
+            _ => None,
+        }
+    }
+
+    /// Takes the row off that `peek` showed, of which `rest` is what its fields leave: what `Fields::rest` gives once they are gone through. With
+    /// any other row or bytes, nothing is said of the events that are then left.
+    #[inline(always)]
+    pub fn pass_row(&mut self, row: Row<'a>, rest: &'a [u8])
+        ensures passed { PassesRow self.old row.entry rest.now self.new }
+        ensures columned { event_columns self.new ≡ event_columns self.old }
+    {
+        self.bytes = rest;
+        self.count = self.count.saturating_sub(1);
+    }
+
     // Lets no more of them come.
     pub fn stop(&mut self)
         ensures none { events_left self.new ≡ [] }
+        ensures stand { Stand self.new }
         ensures columned { event_columns self.new ≡ event_columns self.old }
     {
         self.count = 0;
@@ -198,10 +227,19 @@ pub struct Fields<'a> {
     pub(crate) rest: Row<'a>,
 }
 
+impl<'a> Fields<'a> {
+    /// The bytes that are not gone through: where no field is left, those after the row's fields.
+    pub fn rest(&self) -> &'a [u8]
+        ensures { fields_left self.now ≡ [] → result.now ≡ bytes_after self.now }
+    {
+        self.rest.bytes
+    }
+}
+
 impl<'a> Iterator for Fields<'a> {
     type Item = Field<'a>;
 
-    ghost next_gives = { Gives fields_left field_of };
+    ghost next_gives = { GivesFields };
 
     ghost remaining = { λ s. at_most (length (fields_left s)) };
 

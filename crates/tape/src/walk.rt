@@ -10,10 +10,11 @@ use crate::recording::Columns;
 use mysql::{Column, known_buffer_size_for_ffi_type};
 
 // The number that no failure has in the format.
-const NO_FAILURE: u16 = 0;
+pub(crate) const NO_FAILURE: u16 = 0;
 
 // A number in two bytes. It and the next stay two functions: each is two lines over `split_first_chunk`, and one over both numbers would need a
 // trait of its own.
+#[inline(always)]
 pub fn take_u16(bytes: &[u8]) -> Option<(u16, &[u8])>
     ensures { take2 bytes.now ≡ off (λ n. n) result }
 {
@@ -22,6 +23,7 @@ pub fn take_u16(bytes: &[u8]) -> Option<(u16, &[u8])>
 }
 
 // A number in four bytes.
+#[inline(always)]
 pub fn take_u32(bytes: &[u8]) -> Option<(u32, &[u8])>
     ensures { take4 bytes.now ≡ off (λ n. n) result }
 {
@@ -30,20 +32,32 @@ pub fn take_u32(bytes: &[u8]) -> Option<(u32, &[u8])>
 }
 
 // A field that is not null, after its first byte.
+#[inline(always)]
 fn take_held(code: u8, lost: bool, bytes: &[u8]) -> Option<(Field<'_>, &[u8])>
     ensures { take_held code lost bytes.now ≡ off field_of result }
 {
     let (length, rest) = take_u32(bytes)?;
-    let length = length as usize;
-    let fits = known_buffer_size_for_ffi_type(code).map_or(!lost, |size| length == size);
-    if !fits || length > rest.len() {
-        return None;
+    match known_buffer_size_for_ffi_type(code) {
+        Some(size) => {
+            if length != size as u32 || size > rest.len() {
+                return None;
+            }
+            let (held, rest) = rest.split_at(size);
+            Some((Field::Held { bytes: held, lost }, rest))
+        }
+        None => {
+            let length = length as usize;
+            if lost || length > rest.len() {
+                return None;
+            }
+            let (held, rest) = rest.split_at(length);
+            Some((Field::Held { bytes: held, lost }, rest))
+        }
     }
-    let (held, rest) = rest.split_at(length);
-    Some((Field::Held { bytes: held, lost }, rest))
 }
 
 // A field of a column with this code. The bytes 0, 1 and 2 are the format's.
+#[inline(always)]
 pub fn take_field(code: u8, bytes: &[u8]) -> Option<(Field<'_>, &[u8])>
     ensures { take_field code bytes.now ≡ off field_of result }
 {
@@ -56,6 +70,7 @@ pub fn take_field(code: u8, bytes: &[u8]) -> Option<(Field<'_>, &[u8])>
 }
 
 // A column.
+#[inline(always)]
 pub fn take_column(bytes: &[u8]) -> Option<(Column, &[u8])>
     ensures { take_column bytes.now ≡ off (λ c. c) result }
 {
@@ -65,6 +80,7 @@ pub fn take_column(bytes: &[u8]) -> Option<(Column, &[u8])>
 }
 
 // The bytes after the fields of a row with these columns.
+#[inline(always)]
 fn skip_fields<'a>(columns: &[u8], bytes: &'a [u8]) -> Option<&'a [u8]>
     ensures { left (take_fields (columns_in columns.now) bytes.now) ≡ option_map (λ x. x.now) result }
 {

@@ -12,7 +12,9 @@ use Rattle.tape.specs.declared.event.Row.{Row as RowView}
 use Rattle.tape.specs.declared.recording.Events.{Events}
 use Rattle.tape.specs.declared.event.Event.TheVariants as view
 use Rattle.tape.specs.Views.{columns_in, event_of}
-use Rattle.tape.specs.Recordings.{event_columns, events_left}
+use Rattle.tape.specs.Format as recorded
+use Rattle.tape.specs.declared.event.Event.{Event as EventView}
+use Rattle.tape.specs.Recordings.{GivesEvents, Stand, event_columns, events_left}
 use Rattle.tape_host.specs.declared.tapes.Tape.{Tape}
 use Rattle.std.specs.Option.{option_map, unwrap_or}
 use Rattle.tape_host.specs.Tapes.{own_code, event_shown, columns_of, current_of, bound_of, places_of, means}
@@ -127,3 +129,12 @@ module _ (t : Tape) where
       as_many_reports = refl;
       untouched = record { same_length = refl; same_bytes = λ p out. refl };
     }
+
+-- a failure that is next is taken off
+pub failure_taken : (s s' : Events) (o : Option EventView) (n : ℕ) (es : List recorded.Event) → events_left s ≡ recorded.failure n ∷ es → GivesEvents s o s'
+    → (s'.columns.now ≡ s.columns.now) × (Stand s → Stand s') × (events_left s ≡ recorded.failure n ∷ events_left s')
+failure_taken s s' None n es h g = let z : ◌≡◌ {A = List recorded.Event} [] (recorded.failure n ∷ es) = sym g.gives.0 ∙ h in cc
+failure_taken s s' (Some e) n es h g =
+    let z : ◌≡◌ {A = List recorded.Event} (event_of e ∷ events_left s') (recorded.failure n ∷ es) = sym g.gives ∙ h in
+    let r : es ≡ events_left s' = cc in
+    (g.same_columns, g.stand, h ∙ ap (λ xs. recorded.failure n ∷ xs) r)

@@ -1,11 +1,11 @@
 -- Places and fields, gone through one after the other.
 -- Assumes nothing.
-use Rattle.std.proofs.Common.{◌≡◌, ℕ, zero, suc, ◌+◌, ◌<◌, ◌≤◌, min, Bool, true, false, ◌&&◌, leb, List, [], ◌∷◌, Option, Some, None, refl, length, get_or, drop, sym, ap, ◌∙◌, ⊎_elim, arith}
+use Rattle.std.proofs.Common.{◌≡◌, ℕ, zero, suc, ◌+◌, ◌-◌, ◌<◌, ◌≤◌, min, Bool, true, false, ◌&&◌, leb, List, [], ◌∷◌, Option, Some, None, refl, length, get_or, drop, sym, ap, ◌∙◌, ⊎_elim, arith}
 use Rattle.std.proofs.lemmas.List.{drop_all, drop-drop, get_or-drop}
-use Rattle.std.proofs.lemmas.Bool.{cases_lt, le-leb}
+use Rattle.std.proofs.lemmas.Bool.{cases_lt, and_parts, le-leb, leb-true}
 use Rattle.host.specs.declared.records.BindRecord.{BindRecord}
 use Rattle.std.proofs.lemmas.Option.{unwrap_or-slice_get}
-use Rattle.std.specs.List.{list_all, slice_get, IsAllAdjacentAnswer}
+use Rattle.std.specs.List.{slice_get, IsAllAdjacentAnswer}
 use Rattle.std.specs.Option.{option_map, unwrap_or}
 use Rattle.host.specs.Fields.{Field, null}
 use Rattle.tape.specs.declared.field.Field.{Field as View}
@@ -21,10 +21,31 @@ drop_min xs offset n e =
     (λ (l : length xs ≤ offset). drop_all n xs (omega arith) ∙ sym (drop_all offset xs l))
     (cases_lt offset (length xs))
 
--- all places end by the end of an arena
-pub ends_all : (arena : ℕ) (bs : List BindRecord) → list_all (λ b. leb (end b) arena) bs ≡ all_end_by arena bs
-ends_all arena [] = refl
-ends_all arena (b ∷ bs) = ap (λ x. leb (end b) arena && x) (ends_all arena bs)
+-- places in order all end by the end of an arena where the last one does
+pub last_ends : (arena from n : ℕ) (bs : List BindRecord) (b : BindRecord) → in_order from bs ≡ true → n ≡ length bs - 1 → slice_get bs n ≡ Some b → leb (end b) arena ≡ all_end_by arena bs
+last_ends arena from n [] b o l e = cc
+last_ends arena from zero (x ∷ []) b o l e = let q : x ≡ b = cc in ap (λ (y : BindRecord). leb (end y) arena) (sym q) ∙ and_true (leb (end x) arena)
+  where
+    and_true : (z : Bool) → z ≡ (z && true)
+    and_true true = refl
+    and_true false = refl
+last_ends arena from (suc n) (x ∷ []) b o l e = absurd (omega arith)
+last_ends arena from zero (x ∷ y ∷ r) b o l e = absurd (omega arith)
+last_ends arena from (suc n) (x ∷ y ∷ r) b o l e = last_ends arena (end x) n (y ∷ r) b later (omega arith) e ∙ more (all_end_by arena (y ∷ r)) refl
+  where
+    later : in_order (end x) (y ∷ r) ≡ true
+    later = (and_parts (leb from x.start) (in_order (end x) (y ∷ r)) o).1
+
+    more : (z : Bool) → all_end_by arena (y ∷ r) ≡ z → z ≡ (leb (end x) arena && z)
+    more true q =
+        let s = leb-true (end x) y.start (and_parts (leb (end x) y.start) (in_order (end y) r) later).0 in
+        let t = leb-true (end y) arena (and_parts (leb (end y) arena) (all_end_by arena r) q).0 in
+        ap (λ (z : Bool). z && true) (sym (le-leb (end x) arena (omega arith)))
+    more false q = and_false (leb (end x) arena)
+      where
+        and_false : (z : Bool) → false ≡ (z && false)
+        and_false true = refl
+        and_false false = refl
 
 -- a field that was found at an index, or null
 pub field_or_null : (o : Option View) (fs : List Field) (k : ℕ) → option_map field_of o ≡ slice_get fs k → field_of (unwrap_or o view.Null) ≡ get_or fs k null

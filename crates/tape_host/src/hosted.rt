@@ -61,21 +61,24 @@ impl Host for Tape<'_> {
             self.refuse(ClientError::InvalidParameter);
             return Fetched::Failed;
         }
-        let Some(event) = self.events.next() else {
+        let Some(event) = self.events.peek() else {
             self.current = None;
             self.error = 0;
             return Fetched::NoData;
         };
         match event {
             Event::Failure(number) => {
+                let _event = self.events.next();
                 self.current = None;
                 self.error = number;
                 Fetched::Failed
             }
             Event::Row(row) => {
+                let (truncated, rest) = write_row(row, self.places(), arena, reports);
+                self.events.pass_row(row, rest);
                 self.current = Some(row);
                 self.error = 0;
-                if write_row(row, self.places(), arena, reports) {
+                if truncated {
                     Fetched::Truncated
                 } else {
                     Fetched::Row

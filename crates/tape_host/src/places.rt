@@ -1,5 +1,5 @@
 // Places in the arena. Where they end is judged as a whole number: a start and a capacity may together pass the machine's word.
-ghost use Rattle.std.specs.Prelude.{◌≡◌, ◌≤◌, length, take};
+ghost use Rattle.std.specs.Prelude.{◌≡◌, ◌≤◌, true, length, take};
 ghost use Rattle.host.specs.Calls.{end, in_order, all_end_by};
 
 use host::{BindRecord, MOST_COLUMNS};
@@ -18,13 +18,15 @@ pub(crate) fn are_in_order(records: &[BindRecord]) -> bool
     records.is_sorted_by(|place, next| end_of(*place) <= next.start as u128)
 }
 
-// Whether every place ends by the end of an arena of this length.
+/// Whether every place ends by the end of an arena of this length. Places in order do where the last one does.
 pub(crate) fn all_end_by(arena: usize, records: &[BindRecord]) -> bool
+    requires { in_order 0 records.now ≡ true }
     ensures { result ≡ all_end_by arena records.now }
 {
-    records
-        .iter()
-        .all(|record| end_of(*record) <= arena as u128)
+    match records.last() {
+        Some(last) => end_of(*last) <= arena as u128,
+        None => true,
+    }
 }
 
 // Records at the front of an array.

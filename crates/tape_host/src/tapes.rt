@@ -2,7 +2,7 @@
 ghost use Rattle.std.specs.Prelude.{◌≡◌, ◌≤◌, true, [], length, take};
 ghost use Rattle.std.specs.Option.{option_map, unwrap_or, ForSome};
 ghost use Rattle.host.specs.Calls.{in_order};
-ghost use Rattle.tape.specs.Recordings.{event_columns};
+ghost use Rattle.tape.specs.Recordings.{event_columns, Stand};
 
 use host::{BindRecord, MOST_COLUMNS};
 use tape::{Events, Row};
@@ -16,6 +16,8 @@ pub struct Tape<'a> {
     pub(crate) records: Option<[BindRecord; MOST_COLUMNS]>,
     pub(crate) error: u16,
     ghost few: { length (event_columns events) ≤ 64 },
+    // all of them stand
+    ghost stand: { Stand events },
     // the current row has the same columns
     ghost columned: { ForSome current (λ r. r.columns.now ≡ events.columns.now) },
     // the places of the columns are in order

@@ -1,9 +1,9 @@
 // Fields, written to their places and reported.
-ghost use Rattle.std.specs.Prelude.{◌≡◌, ℕ, ◌+◌, ◌<◌, min, true, false, length, drop, slice_index, slice_index_or};
+ghost use Rattle.std.specs.Prelude.{◌≡◌, ℕ, ◌+◌, ◌^◌, ◌<◌, ◌≤◌, min, true, false, length, drop, slice_index, slice_index_or};
 ghost use Rattle.host.specs.Fields.{null};
 ghost use Rattle.host.specs.Calls.{from_offset, PartReported, Stands, in_order, all_end_by};
-ghost use Rattle.tape.specs.Views.{field_of, row_of};
-ghost use Rattle.tape.specs.Recordings.{fields_left};
+ghost use Rattle.tape.specs.Views.{field_of, row_of, columns_in, after_fields};
+ghost use Rattle.tape.specs.Recordings.{fields_left, bytes_after};
 ghost use Rattle.tape_host.specs.Wholes.{Wrote};
 
 use host::{BindRecord, Report};
@@ -14,7 +14,47 @@ fn copy_front(bytes: &[u8], part: &mut [u8])
     ensures { (j : ℕ) → j < min (length part.old) (length bytes.now) → slice_index part.new j ≡ slice_index bytes.now j }
 {
     let count = bytes.len().min(part.len());
-    part[..count].copy_from_slice(&bytes[..count]);
+    copy_same(&bytes[..count], &mut part[..count]);
+}
+
+/// Copies bytes over as many others. Up to 16 of them go in one or two copies of a fixed size, which are a load and a store each.
+#[inline(always)]
+fn copy_same(bytes: &[u8], part: &mut [u8])
+    requires { length part.old ≡ length bytes.now }
+    ensures { part.new ≡ bytes.now }
+{
+    if bytes.len() > 16 {
+        part.copy_from_slice(bytes);
+    } else if bytes.len() >= 8 {
+        copy_ends::<8>(bytes, part);
+    } else if bytes.len() >= 4 {
+        copy_ends::<4>(bytes, part);
+    } else if bytes.len() >= 2 {
+        copy_ends::<2>(bytes, part);
+    } else if bytes.len() == 1 {
+        part[0] = bytes[0];
+    }
+}
+
+/// Copies the first and the last `N` bytes, which together are all of them.
+#[inline(always)]
+fn copy_ends<const N: usize>(bytes: &[u8], part: &mut [u8])
+    requires small { N < 2 ^ 32 }
+    requires as_many { length part.old ≡ length bytes.now }
+    requires enough { N ≤ length bytes.now }
+    requires few { length bytes.now ≤ N + N }
+    ensures { part.new ≡ bytes.now }
+{
+    if let (Some(first), Some(last)) = (bytes.first_chunk::<N>(), bytes.last_chunk::<N>()) {
+        let first = *first;
+        let last = *last;
+        if let Some(to) = part.first_chunk_mut::<N>() {
+            *to = first;
+        }
+        if let Some(to) = part.last_chunk_mut::<N>() {
+            *to = last;
+        }
+    }
 }
 
 // The bytes from an offset on; past their end there are none.
@@ -47,9 +87,11 @@ pub(crate) fn write_field(field: Field, offset: usize, part: &mut [u8]) -> Repor
 }
 
 // The next field of a row; past the last one it is null.
+#[inline(always)]
 fn next_field<'a>(fields: &mut Fields<'a>) -> Field<'a>
     ensures first { field_of result ≡ slice_index_or (fields_left fields.old) 0 null }
     ensures left { fields_left fields.new ≡ drop 1 (fields_left fields.old) }
+    ensures after { bytes_after fields.new ≡ bytes_after fields.old }
 {
     fields.next().unwrap_or(Field::Null)
 }
@@ -61,17 +103,21 @@ pub(crate) fn field_at<'a>(row: Row<'a>, column: usize) -> Field<'a>
     row.fields().nth(column).unwrap_or(Field::Null)
 }
 
-// Writes the fields of a row to their places, with a report for each; says whether anything of it is truncated, which is no failure.
-pub(crate) fn write_row(
-    row: Row,
+/// Writes the fields of a row to their places, with a report for each. Answers whether anything of it is truncated, which is no failure, and with the
+/// bytes after the fields.
+#[inline(always)]
+pub(crate) fn write_row<'a>(
+    row: Row<'a>,
     places: &[BindRecord],
     arena: &mut [u8],
     reports: &mut [Report],
-) -> bool
+) -> (bool, &'a [u8])
     requires ordered { in_order 0 places.now ≡ true }
     requires inside { all_end_by (length arena.old) places.now ≡ true }
     requires counted { length reports.old ≡ length places.now }
-    ensures { Wrote (row_of row.entry) places.now reports.new arena.old arena.new result }
+    requires columned { length places.now ≡ length (columns_in row.columns.now) }
+    ensures wrote { Wrote (row_of row.entry) places.now reports.new arena.old arena.new result.0 }
+    ensures rest { result.1.now ≡ after_fields (columns_in row.entry.columns.now) row.entry.bytes.now }
 {
     let mut fields = row.fields();
     let mut truncated = false;
@@ -83,5 +129,5 @@ pub(crate) fn write_row(
         truncated |= report.is_truncated;
         reports[i] = report;
     }
-    truncated
+    (truncated, fields.rest())
 }

@@ -1,9 +1,11 @@
 use Rattle.std.proofs.Common.{◌≡◌, ℕ, Bool, true, false, eqb, List, [], length, Option, sym, ap, ◌∙◌, ⊎_elim, arith}
 use Rattle.std.specs.Bool.{then_some}
 use Rattle.std.proofs.lemmas.Bool.{eqb-true, eqb-false}
-use Rattle.tape.specs.declared.recording.Recording.{Recording}
+use Rattle.tape.specs.declared.parts.Recording.{Recording}
 use Rattle.tape.specs.Decode.{taken, broken, take_tape}
 use Rattle.tape.specs.Recordings.{contents, whole}
+use Rattle.tape.specs.Views.{columns_in}
+use Rattle.tape.proofs.Stands.{all_stand}
 use Rattle.tape.proofs.Whole.{too_wide, columns_missing, events_broken, too_long, all_there}
 use Rattle.tape.proofs.recording.read.Goals as goal
 
@@ -23,6 +25,10 @@ returns-in_err-end c =
     c.in_ok-count.count c.in_ok-count.rest.now c.in_ok-count.ensures (omega arith)
     c.from-width.result c.split_at.result.0.now c.split_at.result.1.now c.from-width.ensures c.split_at.ensures.front c.split_at.ensures.back (omega arith)
     c.in_err-end.ensures)
+
+pub invariant_of-then_some : goal.invariant_of-then_some
+invariant_of-then_some c =
+    record { stand = all_stand (columns_in c.split_at.result.0.now) c.in_ok-count.count c.split_at.result.1.now c.in_ok-end.end.now c.in_ok-end.ensures }
 
 -- a recording, where nothing is left of the bytes
 where_ended : (bytes left : List ℕ) (ended : Bool) (r : Recording) (o : Option Recording) → ended ≡ eqb (length left) 0 → o ≡ then_some ended r

@@ -1,11 +1,8 @@
-use Rattle.std.proofs.Common.{◌∙◌, leb, rules, tests}
-use Rattle.std.proofs.lemmas.Iterator.{YieldsList-from_slice}
-use Rattle.std.proofs.lemmas.Iterator.Search.{all_from_yields_List}
-use Rattle.host.specs.Calls.{end}
-use Rattle.tape_host.proofs.Copied.{ends_all}
+use Rattle.std.proofs.Common.{◌-◌, leb, length, sym, refl, ap, ◌∙◌}
+use Rattle.tape_host.proofs.Copied.{last_ends}
 use Rattle.tape_host.proofs.places.all_end_by.Goals as goal
 
-pub returns : goal.returns
-returns c =
-    all_from_yields_List (λ b. leb (end b) c.args.arena) _ _ c.all.result c.all.ensures.ran (YieldsList-from_slice c.args.records.now cc) (λ x b q k. search (rules, tests))
-    ∙ ends_all c.args.arena c.args.records.now
+pub returns-in-Some : goal.returns-in-Some
+returns-in-Some c =
+    ap (λ e. leb e c.args.arena) c.end_of.ensures
+    ∙ last_ends c.args.arena 0 (length c.args.records.now - 1) c.args.records.now c.in-Some.last.now c.requires refl (sym c.in-Some.ensures.value)

@@ -1,27 +1,41 @@
-use Rattle.std.proofs.Common.{◌∷◌, length, sym, ap, ◌∙◌, inr, is_some, rules}
+use Rattle.std.proofs.Common.{length, sym, ap, ◌∙◌, subst, inr, is_some, Some, arith, rules}
 use Rattle.host.specs.Calls.{in_order, all_end_by}
-use Rattle.tape.specs.Views.{columns_in, event_of}
-use Rattle.tape.specs.Recordings.{events_left}
-use Rattle.tape_host.proofs.Called.{allowed_says, bound_stays, places_stay, failure_came}
+use Rattle.tape.specs.declared.event.Event.{Event as EventView}
+use Rattle.tape.specs.Views.{columns_in}
+use Rattle.tape.specs.Recordings.{Peeks, RowNext}
+use Rattle.tape_host.proofs.Called.{allowed_says, places_stay, failure_came, failure_taken}
 use Rattle.tape_host.proofs.hosted.TapeHost.fetch.Goals as goal
 
-pub write_row-requires : goal.write_row-requires
-write_row-requires c =
+pub write_row-truncated-requires : goal.write_row-truncated-requires
+write_row-truncated-requires c =
     let t = c.args.self.now in
     let arena = c.args.arena.now in
     let a = allowed_says t (length arena) (length c.args.reports.now) (sym c.if-not-can_fetch.ensures) in
-    let same = c.in-Some.ensures.steps.1 in
-    let p = c.places.ensures.are ∙ places_stay t c.next.new.self same in
+    let p = c.places.ensures.are in
+    let n = c.places.ensures.counted (ap is_some a.bound) in
+    let next : RowNext t.events c.in-Row.row = subst (λ (e : EventView). Peeks t.events (Some e)) c.in-Row.is c.in-Some.ensures in
     record {
       ordered = ap (in_order 0) p ∙ t.ordered;
       inside = ap (all_end_by (length arena)) p ∙ a.inside;
-      counted =
-          a.reported ∙ ap (λ bs. length (columns_in bs)) (sym same) ∙ sym (c.places.ensures.counted (ap is_some (bound_stays t c.next.new.self same ∙ a.bound)));
+      counted = a.reported ∙ sym n;
+      columned = n ∙ ap (λ bs. length (columns_in bs)) (sym next.columned);
+    }
+
+pub invariant_of-self-in-Failure : goal.invariant_of-self-in-Failure
+invariant_of-self-in-Failure c =
+    let t = c.args.self.now in let after = c.next-event.new.self in
+    let p = subst (λ (e : EventView). Peeks t.events (Some e)) c.in-Failure.is c.in-Some.ensures in
+    let s = failure_taken t.events after c.next-event.result c.in-Failure.number p.0 p.1 c.next-event.ensures.steps in
+    record {
+      few = omega (arith, t.few, ap (λ bs. length (columns_in bs)) s.0);
+      stand = s.1 t.stand;
+      columned = search rules;
+      ordered = ap (in_order 0) (places_stay t after s.0) ∙ t.ordered;
     }
 
 pub returns-in-Failure : goal.returns-in-Failure
 returns-in-Failure c =
-    let t = c.args.self.now in
-    let s = c.in-Some.ensures.steps in
-    inr (failure_came t c.args.reports.now c.args.arena.now (sym c.if-not-can_fetch.ensures) c.next.new.self s.1 c.in-Failure.number (search rules)
-    (s.0 ∙ ap (λ e. event_of e ∷ events_left c.next.new.self) c.in-Failure.is))
+    let t = c.args.self.now in let after = c.next-event.new.self in
+    let p = subst (λ (e : EventView). Peeks t.events (Some e)) c.in-Failure.is c.in-Some.ensures in
+    let s = failure_taken t.events after c.next-event.result c.in-Failure.number p.0 p.1 c.next-event.ensures.steps in
+    inr (failure_came t c.args.reports.now c.args.arena.now (sym c.if-not-can_fetch.ensures) after s.0 c.in-Failure.number (search rules) s.2)

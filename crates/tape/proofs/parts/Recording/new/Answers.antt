@@ -4,11 +4,11 @@ use Rattle.std.proofs.ByRecursion.{All-from_get_or}
 use Rattle.mysql.specs.declared.fault.Fault.{Fault}
 use Rattle.mysql.specs.declared.fault.Refusal.TheVariants.{BrokenTape}
 use Rattle.mysql.specs.Faults.{refused}
-use Rattle.tape.specs.declared.recording.Recording.{Recording}
+use Rattle.tape.specs.declared.parts.Recording.{Recording}
 use Rattle.tape.specs.Decode.{take_tape}
 use Rattle.tape.specs.Recordings.{contents, whole, Opened}
 use Rattle.tape.proofs.Same.{Bytes, tape_back, tape_sound}
-use Rattle.tape.proofs.recording.Recording.new.Goals as goal
+use Rattle.tape.proofs.parts.Recording.new.Goals as goal
 
 opened : (bytes : List ℕ) → Bytes bytes → (o : Option Recording) → take_tape bytes ≡ whole o → (f : Fault) → f ≡ refused BrokenTape → Opened bytes (ok_or o f)
 opened bytes fit (Some r) h f e = tape_sound bytes (contents r) [] fit h
