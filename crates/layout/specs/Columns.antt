@@ -92,6 +92,11 @@ pub record Lost (c : ColumnRecord) : Type 0 where
   pub fixed : size_of c.code ≡ Some size
   pub marked : c.is_truncated ≡ true
 
+-- a column is plain: not marked truncated, and null or no longer than its place
+pub record Plain (c : ColumnRecord) : Type 0 where
+  pub unmarked : c.is_truncated ≡ false
+  pub room : c.is_null ≡ false → c.length ≤ c.capacity
+
 -- a record with what a host reported of its column
 abbrev pub noted : ColumnRecord → Report → ColumnRecord
 noted c r = record { code = c.code; flags = c.flags; start = c.start; capacity = c.capacity; length = r.length; is_null = r.is_null; is_truncated = r.is_truncated }

@@ -7,7 +7,7 @@ use Rattle.host.specs.declared.records.Report.{Report}
 use Rattle.host.specs.Calls.{no_report}
 use Rattle.layout.specs.declared.record.ColumnRecord.{ColumnRecord}
 use Rattle.layout.specs.declared.table.ColumnTable.{ColumnTable}
-use Rattle.layout.specs.Columns.{no_record, bind_of, total, wanted, sum, noted, moved, Fits, Lost}
+use Rattle.layout.specs.Columns.{no_record, bind_of, total, wanted, sum, noted, moved, Fits, Lost, Plain}
 
 -- how many columns a table has, a column of it, where that begins, and where the places end
 abbrev pub count_of : ColumnTable → ℕ
@@ -100,6 +100,10 @@ pub record SamePlaces (old new : ColumnTable) : Type 0 where
 -- what was reported of each column fits its place
 abbrev pub AllFit : ColumnTable → Type 0
 AllFit t = (k : ℕ) → k < count_of t → Fits (col t k)
+
+-- all columns are plain
+abbrev pub AllPlain : ColumnTable → Type 0
+AllPlain t = (k : ℕ) → k < count_of t → Plain (col t k)
 
 -- no figure of a fixed column was lost
 abbrev pub NoneLost : ColumnTable → Type 0

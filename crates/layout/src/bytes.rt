@@ -1,6 +1,6 @@
 // What is asked of one column's record.
-ghost use Rattle.std.specs.Prelude.{◌≡◌, true, false};
-ghost use Rattle.layout.specs.Columns.{bytes_of, kept as kept_of, wanted as wanted_of, Over, Lost};
+ghost use Rattle.std.specs.Prelude.{◌≡◌, ◌↔◌, true, false, IsTrue};
+ghost use Rattle.layout.specs.Columns.{bytes_of, kept as kept_of, wanted as wanted_of, Over, Lost, Plain};
 
 use crate::record::ColumnRecord;
 use mysql::known_buffer_size_for_ffi_type;
@@ -29,6 +29,14 @@ impl ColumnRecord {
         ensures no { result ≡ false → Lost self.now → ⊥ }
     {
         known_buffer_size_for_ffi_type(self.code).is_some() && self.is_truncated
+    }
+
+    /// Whether it is plain: not marked truncated, and null or no longer than its place.
+    #[inline(always)]
+    pub(crate) fn is_plain(&self) -> bool
+        ensures { IsTrue result ↔ Plain self.now }
+    {
+        !self.is_truncated && (self.is_null || self.length <= self.capacity as u64)
     }
 
     // How many of its bytes stand in its place: none of a null.

@@ -1,6 +1,7 @@
 // What was reported of the columns, noted in the table, and what is asked of it.
-ghost use Rattle.std.specs.Prelude.{◌≡◌, ◌<◌, ◌≤◌, true, false, length, MatchOption};
-ghost use Rattle.layout.specs.Tables.{count_of, col, NotedAt, Noted, SamePlaces, AllFit, NoneLost, LowestLost, binds, end as end_of};
+ghost use Rattle.std.specs.Prelude.{◌≡◌, ◌↔◌, ◌<◌, ◌≤◌, true, false, length, IsTrue, MatchOption};
+ghost use Rattle.layout.specs.Tables.{count_of, col, NotedAt, Noted, SamePlaces, AllFit, AllPlain, NoneLost, LowestLost, binds, end as end_of};
+ghost use Rattle.layout.specs.Columns.{Plain};
 
 use crate::record::ColumnRecord;
 use crate::table::ColumnTable;
@@ -23,24 +24,35 @@ impl ColumnTable {
         self.columns.get(i).copied()
     }
 
-    // Notes what was reported of column `i`, if there is one.
-    pub fn note(&mut self, i: usize, report: Report)
+    /// Notes what was reported of column `i`, if there is one, and says whether it is plain then: not marked truncated, and null or no longer
+    /// than its place. Where there is no such column the answer is yes.
+    #[inline(always)]
+    pub fn note(&mut self, i: usize, report: Report) -> bool
         ensures noted { NotedAt i self.old report self.new }
         ensures places { SamePlaces self.old self.new }
+        ensures plain { i < count_of self.old → (IsTrue result ↔ Plain (col self.new i)) }
+        ensures past { count_of self.old ≤ i → IsTrue result }
     {
         if let Some(column) = self.columns.get_mut(i) {
             column.note(report);
+            column.is_plain()
+        } else {
+            true
         }
     }
 
-    // Notes the report of each column that has one. (By number: of what a `zip` with `iter_mut` leaves behind nothing is known.)
-    pub fn note_all(&mut self, reports: &[Report])
+    /// Notes the report of each column that has one, and says whether each has one and is plain then.
+    #[inline(always)]
+    pub fn note_all(&mut self, reports: &[Report]) -> bool
         ensures noted { count_of self.old ≤ length reports.now → Noted self.old reports.now self.new }
         ensures places { SamePlaces self.old self.new }
+        ensures plain { IsTrue result ↔ ((count_of self.old ≤ length reports.now) × AllPlain self.new) }
     {
+        let mut plain = self.count() <= reports.len();
         for (i, report) in reports.iter().enumerate() {
-            self.note(i, *report);
+            plain &= self.note(i, *report);
         }
+        plain
     }
 
     // The lowest column of a fixed size that is marked truncated.

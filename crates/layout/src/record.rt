@@ -21,15 +21,13 @@ pub struct ColumnRecord {
 
 impl ColumnRecord {
     // Notes what was reported of the column.
+    #[inline(always)]
     pub(crate) fn note(&mut self, report: Report)
         ensures { self.new ≡ noted self.old report }
     {
-        *self = ColumnRecord {
-            length: report.length,
-            is_null: report.is_null,
-            is_truncated: report.is_truncated,
-            ..*self
-        };
+        self.length = report.length;
+        self.is_null = report.is_null;
+        self.is_truncated = report.is_truncated;
     }
 }
 

@@ -21,7 +21,10 @@ pub fn populate_dynamic_buffers<H: Host>(
     ensures fit { OnOk result (AllFit table.new) }
     ensures came { (row : Row) → RowGot (H.Host.meaning host.old) row table.old reports.now arena.old → Settled (H.Host.meaning host.old) row table.old arena.old result (H.Host.meaning host.new) table.new arena.new }
 {
-    table.note_all(reports);
+    // where each column is plain, no figure is lost and every value stands whole in its place
+    if table.note_all(reports) {
+        return Ok(());
+    }
     if let Some(k) = did_numeric_overflow_occur(table) {
         return Err(Fault::new(Refusal::NumericOverflow).at(k as u8));
     }

@@ -7,6 +7,7 @@ use Rattle.mysql.specs.declared.fault.Refusal.TheVariants.{Unopened, ArenaLength
 use Rattle.mysql.specs.Faults.{refused}
 use Rattle.mysql.specs.Refusals.{number_of}
 use Rattle.mysql.specs.Types.{type_of}
+use Rattle.host.specs.declared.records.Report.{Report}
 use Rattle.host.specs.Meanings.{Row, Event, row, failure, Meaning}
 use Rattle.host.specs.Calls.{Reported, with_error}
 use Rattle.layout.specs.declared.record.ColumnRecord.{ColumnRecord}
@@ -36,9 +37,9 @@ module _ {H : Type 0} where
   abbrev pub table_of : Session H → ColumnTable
   table_of s = table s.opened
 
-  -- an opened session, of its two parts
-  abbrev pub session_of : H → state.Opened → Session H
-  session_of h o = record { host = h; opened = Some o }
+  -- an opened session, of its parts
+  abbrev pub session_of : H → state.Opened → List Report → Session H
+  session_of h o rs = record { host = h; opened = Some o; reports = rs }
 
   -- While a session is opened, its host is bound to exactly the table's places, at codes that it carries. Where a row is shown, it is
   -- the host's current row.

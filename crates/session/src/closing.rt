@@ -6,7 +6,7 @@ ghost use Rattle.session.specs.Sessions.{is_open, is_shown, table_of, Sound};
 
 use crate::answers::Slip;
 use crate::state::Session;
-use host::Host;
+use host::{Host, MOST_COLUMNS, Report};
 use layout::ColumnRecord;
 
 impl<H: Host> Session<H> {
@@ -17,7 +17,11 @@ impl<H: Host> Session<H> {
         ensures no_row { is_shown result ≡ false }
         ensures sound { Sound (H.Host.meaning host) result }
     {
-        Session { host, opened: None }
+        Session {
+            host,
+            opened: None,
+            reports: [Report::default(); MOST_COLUMNS],
+        }
     }
 
     // Ends the session: the host lets go of its result, and is handed back. The slip of a granted opening is spent.
@@ -28,6 +32,7 @@ impl<H: Host> Session<H> {
         let Session {
             mut host,
             opened: _,
+            reports: _,
         } = self;
         match slip {
             Some(Slip { mark: _ }) => {}

@@ -21,7 +21,7 @@ impl<H: Host> Session<H> {
     {
         let opened = self.opened.as_mut().ok_or(Fault::new(Refusal::Unopened))?;
         opened.check(arena.len())?;
-        opened.populate_row_buffers(&mut self.host, arena)
+        opened.populate_row_buffers(&mut self.host, arena, &mut self.reports)
     }
 }
 
@@ -31,14 +31,13 @@ impl Opened {
         &mut self,
         host: &mut H,
         arena: &mut [u8],
+        reports: &mut [Report; MOST_COLUMNS],
     ) -> Result<Fetch, Fault>
-        requires { passes (session_of host.old self.old) arena.old ≡ true }
-        ensures answer { IsSound H.Host.meaning (session_of host.old self.old) → result ≡ fetch_due H.Host.meaning (session_of host.old self.old) arena.old }
-        ensures after { IsSound H.Host.meaning (session_of host.old self.old) → Fetches H.Host.meaning result (session_of host.old self.old) (session_of host.new self.new) arena.old arena.new }
+        requires { passes (session_of host.old self.old reports.old) arena.old ≡ true }
+        ensures answer { IsSound H.Host.meaning (session_of host.old self.old reports.old) → result ≡ fetch_due H.Host.meaning (session_of host.old self.old reports.old) arena.old }
+        ensures after { IsSound H.Host.meaning (session_of host.old self.old reports.old) → Fetches H.Host.meaning result (session_of host.old self.old reports.old) (session_of host.new self.new reports.new) arena.old arena.new }
     {
         self.shown = false;
-        // an array, since it is the host that fills it
-        let mut reports = [Report::default(); MOST_COLUMNS];
         let reports = &mut reports[..self.table.count()];
         match host.fetch(arena, reports) {
             Fetched::NoData => Ok(Fetch::End),

@@ -3,6 +3,7 @@ ghost use Rattle.std.specs.Prelude.{◌≡◌, ℕ, ◌<◌, true};
 ghost use Rattle.layout.specs.Columns.{Fits};
 ghost use Rattle.layout.specs.Tables.{count_of, col};
 
+use host::{MOST_COLUMNS, Report};
 use layout::ColumnTable;
 use readings::MysqlValue;
 
@@ -21,6 +22,8 @@ pub(crate) struct Opened {
 pub struct Session<H> {
     pub(crate) host: H,
     pub(crate) opened: Option<Opened>,
+    // where the host reports what came of a row, kept from fetch to fetch so that a fetch need not clear it
+    pub(crate) reports: [Report; MOST_COLUMNS],
 }
 
 // What a reading shows. It is lent by the arena, whose bytes it has, and by the session, so that neither changes while it is held.

@@ -3,9 +3,23 @@ use Rattle.std.proofs.lemmas.Result.{err_from_is_err_and}
 use Rattle.mysql.specs.declared.fault.Fault.{Fault}
 use Rattle.mysql.specs.Faults.{at_column}
 use Rattle.layout.specs.declared.table.ColumnTable.{ColumnTable}
+use Rattle.layout.proofs.Fitting.{plain_fits, plain_keeps}
 use Rattle.rows.specs.Settling.{Refuses}
 use Rattle.rows.proofs.Settles.{in_row, refuses_lost, refuses_long, shows_as_it_is, shows_grown}
 use Rattle.rows.proofs.settling.populate_dynamic_buffers.Goals as goal
+
+pub returns-then-note_all : goal.returns-then-note_all
+returns-then-note_all g c =
+    let u = c.note_all.new.self in
+    let plain = (c.note_all.ensures.plain.0 c.if-note_all.true).1 in
+    record {
+      fit = plain_fits u plain;
+      came = λ row got.
+          let m = g.H.Host.meaning c.args.host.now in
+          let t = c.args.table.now in let rs = c.args.reports.now in let a = c.args.arena.now in
+          let written = c.note_all.ensures.noted (omega (arith, got.as_many)) in
+          shows_as_it_is m row t rs a got u written c.note_all.ensures.places (plain_keeps u plain) (plain_fits u plain);
+    }
 
 pub returns-in-Some : goal.returns-in-Some
 returns-in-Some g c = record {
