@@ -6,7 +6,7 @@ use Rattle.outlets.proofs.size.tape_size.Goals as goal
 
 pub returns : goal.returns
 returns c =
-    let shown = YieldsList-from_shown GivesEvents event_of events_left (λ s t h. ap length h.0.0) (λ s x t h. h.0) c.events.result in
+    let shown = YieldsList-from_shown GivesEvents event_of events_left (λ s t h. ap length h.gives.0) (λ s x t h. h.gives) c.events.result in
     record {
       contents = contents c.in_ok-recording.recording;
       is_tape = c.in_ok-recording.ensures;
