@@ -6,9 +6,10 @@ mod tapes;
 
 use oracle::measure;
 use std::process::ExitCode;
-use tapes::Workload;
+use tapes::{Series, Workload};
 
 const USAGE: &str = "bench times REPETITIONS           a table of times
+bench series REPETITIONS          a row's time by how many columns, and by how many bytes, it has: a line each, parted by tabs
 bench names                       the tasks and the workloads, a line each
 bench once TASK WORKLOAD          one task of one workload, to be watched from outside; prints how many rows that has, or nothing where
                                   the workload has no number to be read";
@@ -16,20 +17,33 @@ bench once TASK WORKLOAD          one task of one workload, to be watched from o
 /// A number that no row has in column 0.
 const ABSENT: i32 = -1;
 
-/// A measurement goes through a tape until so many rows have come.
-const ROWS: usize = 60_000;
+/// A measurement goes through a tape until so many fields have come.
+const FIELDS: usize = 120_000;
 
 type Task = fn(&Workload, &mut [u8]);
 
-/// What is done with a tape, and by which side. The last two are what lies below a session.
-const TASKS: [(&str, Task); 6] = [
+/// What is done with a tape, and by which side. The last three are what lies below a session: each side's host, and a bare copy of each row's bytes.
+const TASKS: [(&str, Task); 7] = [
     ("port-fetch", |w, arena| assert_eq!(port::count(&w.tape, arena).shown as usize, w.rows)),
     ("original-fetch", |w, _| assert_eq!(original(w, measure::count).shown as usize, w.rows)),
     ("port-read", |w, arena| assert!(port::lacks_class(&w.tape, arena, ABSENT))),
     ("original-read", |w, _| assert_eq!(original(w, || measure::count_class(ABSENT)).1, 0)),
     ("port-walks", |w, _| assert_eq!(port::events(&w.tape), w.rows)),
     ("original-library", |w, _| assert_eq!(library::alone(&w.tape, 2_048) as usize, w.rows)),
+    ("copy", |w, arena| assert_eq!(copy_rows(w, arena), w.rows)),
 ];
+
+/// Copies as many bytes of each row as its fields have, in one piece, to the front of the arena.
+fn copy_rows(workload: &Workload, arena: &mut [u8]) -> usize {
+    let mut rows = 0;
+    for (start, bytes) in &workload.places {
+        let bytes = (*bytes).min(arena.len());
+        arena[..bytes].copy_from_slice(&workload.tape[*start..start + bytes]);
+        std::hint::black_box(&mut *arena);
+        rows += 1;
+    }
+    rows
+}
 
 impl Workload {
     /// Whether a task is for this workload.
@@ -62,7 +76,7 @@ fn now() -> i64 {
 
 /// Nanoseconds a row.
 fn time(task: Task, workload: &Workload, arena: &mut [u8]) -> f64 {
-    let times = ROWS.div_ceil(workload.rows);
+    let times = FIELDS.div_ceil(workload.rows * workload.columns);
     let start = now();
     for _ in 0..times {
         watched(task, workload, arena);
@@ -76,9 +90,9 @@ fn median(times: &mut [f64]) -> f64 {
 }
 
 /// The middle time of each task of a workload. All are done by turns, so that what else the machine does falls on all alike.
-fn times(workload: &Workload, repetitions: usize) -> [f64; 6] {
+fn times(workload: &Workload, repetitions: usize) -> [f64; 7] {
     let mut arena = vec![0; workload.arena];
-    let mut times: [Vec<f64>; 6] = Default::default();
+    let mut times: [Vec<f64>; 7] = Default::default();
     // the first turn is for warmth
     for turn in 0..=repetitions {
         for ((name, task), times) in TASKS.iter().zip(&mut times) {
@@ -95,18 +109,29 @@ fn times(workload: &Workload, repetitions: usize) -> [f64; 6] {
 
 fn table(repetitions: usize) {
     println!("nanoseconds a row, the middle of {repetitions}\n");
-    println!("{:20}{:>7} |{:^25}|{:^25}|{:^18}", "", "", "fetched to the end", "and column 0 read", "below a session");
+    println!("{:20}{:>7} |{:^25}|{:^25}|{:^25}", "", "", "fetched to the end", "and column 0 read", "below a session");
     let pair = "port  original  ratio";
-    println!("{:20}{:>7} | {pair:>23} | {pair:>23} | {:>16}", "workload", "rows", "walks   library");
+    println!("{:20}{:>7} | {pair:>23} | {pair:>23} | {:>23}", "workload", "rows", "walks   library   copy");
     for (name, make) in tapes::ALL {
         let workload = make();
-        let [port, original, port_read, original_read, walks, library] = times(&workload, repetitions);
+        let [port, original, port_read, original_read, walks, library, copy] = times(&workload, repetitions);
         print!("{name:20}{:>7} | {port:6.0} {original:9.0} {:6.2} | ", workload.rows, port / original);
         match workload.is_read {
             true => print!("{port_read:6.0} {original_read:9.0} {:6.2}", port_read / original_read),
             false => print!("{:23}", ""),
         }
-        println!(" | {walks:6.0} {library:9.0}");
+        println!(" | {walks:6.0} {library:9.0} {copy:6.0}");
+    }
+}
+
+/// A row's time by a number of columns or bytes.
+fn series(repetitions: usize) {
+    println!("series\tnumber\tport\toriginal\tcopy");
+    for Series { name, numbers, make } in tapes::SERIES {
+        for number in numbers {
+            let [port, original, _, _, _, _, copy] = times(&make(*number), repetitions);
+            println!("{name}\t{number}\t{port:.1}\t{original:.1}\t{copy:.1}");
+        }
     }
 }
 
@@ -116,6 +141,10 @@ fn main() -> ExitCode {
     match words.as_slice() {
         ["times", repetitions] => match repetitions.parse() {
             Ok(repetitions) if repetitions > 0 => table(repetitions),
+            _ => return usage(),
+        },
+        ["series", repetitions] => match repetitions.parse() {
+            Ok(repetitions) if repetitions > 0 => series(repetitions),
             _ => return usage(),
         },
         ["names"] => {
