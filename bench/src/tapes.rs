@@ -89,15 +89,17 @@ fn swapped(k: usize) -> Vec<Field> {
     vec![text(k, first), text(k, second)]
 }
 
-/// So many texts, each a byte longer in each row; together they end with the arena.
+/// So many texts, each a byte longer in each row, from 2 bytes on.
 fn longer(columns: usize) -> Workload {
-    workload(&vec![TEXT; columns], 1_000, WHOLE, |k| (0..columns).map(|i| text(k + i, 2 + k)).collect())
+    workload(&vec![TEXT; columns], 100, WHOLE, |k| (0..columns).map(|i| text(k + i, 2 + k)).collect())
 }
 
+/// So many texts of 8 bytes.
 fn steady(columns: usize) -> Workload {
     workload(&vec![TEXT; columns], (256_000 / columns).min(MOST), WHOLE, |k| (0..columns).map(|i| text(k + i, 8)).collect())
 }
 
+/// One text of so many bytes.
 fn one_text(bytes: usize) -> Workload {
     workload(&[TEXT], (4_194_304 / bytes).min(MOST), WHOLE, |k| vec![text(k, bytes)])
 }
