@@ -11,7 +11,7 @@ use Rattle.host.specs.Calls.{no_record as no_bind}
 use Rattle.layout.specs.declared.record.ColumnRecord.{ColumnRecord}
 use Rattle.layout.specs.declared.table.ColumnTable.{ColumnTable}
 use Rattle.layout.specs.Columns.{no_record, bind_of, bytes_by, span, total, Lies, SomeRoom, Sized}
-use Rattle.layout.specs.Tables.{count_of, col, end, binds, SamePlaces}
+use Rattle.layout.specs.Tables.{items, count_of, col, end, binds, SamePlaces}
 use Rattle.layout.proofs.Spans.{inside, capacity}
 
 -- places that follow one another are in order
@@ -32,16 +32,16 @@ end_by n (c ∷ cs) h =
 
 module _ (t : ColumnTable) where
   pub binds_length : length (binds t) ≡ count_of t
-  binds_length = length-map t.columns.items bind_of
+  binds_length = length-map (items t) bind_of
 
   pub binds_at : (k : ℕ) → k < count_of t → get_or (binds t) k no_bind ≡ bind_of (col t k)
-  binds_at k l = get_or-map bind_of t.columns.items k no_record no_bind l
+  binds_at k l = get_or-map bind_of (items t) k no_record no_bind l
 
   pub binds_in_order : in_order 0 (binds t) ≡ true
-  binds_in_order = in_order_from 0 t.columns.items (λ k l. omega (arith, t.laid k l))
+  binds_in_order = in_order_from 0 (items t) (λ k l. omega (arith, t.laid k l))
 
   pub binds_end_by : (n : ℕ) → t.room ≤ n → all_end_by n (binds t) ≡ true
-  binds_end_by n h = let w = t.within in end_by n t.columns.items (λ k l. omega (arith, inside t k l))
+  binds_end_by n h = let w = t.within in end_by n (items t) (λ k l. omega (arith, inside t k l))
 
   -- a byte of a place lies before the end of the places
   pub in_place_inside : (p : ℕ) → InPlace (binds t) p → p < end t
@@ -88,4 +88,4 @@ module _ (cs ds : List ColumnRecord) (e : map bind_of ds ≡ map bind_of cs) whe
 
 -- where places stay, the host is told the same of each column
 pub same_bind : (old new : ColumnTable) → SamePlaces old new → (k : ℕ) → k < count_of old → bind_of (col new k) ≡ bind_of (col old k)
-same_bind old new same k l = same_bind_at old.columns.items new.columns.items same.binds_same k l
+same_bind old new same k l = same_bind_at (items old) (items new) same.binds_same k l

@@ -6,7 +6,7 @@ use Rattle.mysql.specs.Types.{size_of}
 use Rattle.layout.specs.declared.record.ColumnRecord.{ColumnRecord}
 use Rattle.layout.specs.declared.table.ColumnTable.{ColumnTable}
 use Rattle.layout.specs.Columns.{no_record, total, span, bytes_by, Lies, SomeRoom, Sized, moved}
-use Rattle.layout.specs.Tables.{count_of, col, end, Added}
+use Rattle.layout.specs.Tables.{items, count_of, col, end, Added}
 use Rattle.layout.proofs.Spans.{span_all}
 
 module _ (cs : List ColumnRecord) (x : ColumnRecord) where
@@ -40,9 +40,9 @@ module _ (cs : List ColumnRecord) (x : ColumnRecord) where
 -- what holds of the columns of a table, and of one that is added, holds of all
 module _ (x : ColumnRecord) (t v : ColumnTable) (a : Added x t v) where
   pub added_count : count_of v ≡ count_of t + 1
-  added_count = ap length a.columns ∙ length_push t.columns.items (moved x (end t) x.capacity)
+  added_count = ap length a.columns ∙ length_push (items t) (moved x (end t) x.capacity)
 
   pub added_each : (P : ℕ → ColumnRecord → Type 0) → P (count_of t) (moved x (end t) x.capacity) → ((k : ℕ) → k < count_of t → P k (col t k)) → (k : ℕ) → k < count_of t + 1 → P k (col v k)
   added_each P p h k l =
       subst (λ (zs : List ColumnRecord). P k (get_or zs k no_record)) (sym a.columns)
-      (each_push t.columns.items (moved x (end t) x.capacity) P p h k (omega (arith, length_push t.columns.items (moved x (end t) x.capacity))))
+      (each_push (items t) (moved x (end t) x.capacity) P p h k (omega (arith, length_push (items t) (moved x (end t) x.capacity))))

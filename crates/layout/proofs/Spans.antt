@@ -5,7 +5,7 @@ use Rattle.std.proofs.lemmas.List.Sums.{sum_by_more_le}
 use Rattle.layout.specs.declared.record.ColumnRecord.{ColumnRecord}
 use Rattle.layout.specs.declared.table.ColumnTable.{ColumnTable}
 use Rattle.layout.specs.Columns.{no_record, total, span, kept, kept_if, bytes_of}
-use Rattle.layout.specs.Tables.{count_of, col, start, end}
+use Rattle.layout.specs.Tables.{items, count_of, col, start, end}
 
 abbrev pub capacity : ColumnRecord → ℕ
 capacity c = c.capacity
@@ -28,13 +28,17 @@ pub kept_le : (c : ColumnRecord) → kept c ≤ c.capacity
 kept_le c = kept_if_le c.is_null c.capacity (bytes_of c)
 
 module _ (t : ColumnTable) where
+  -- a table has as many columns as it counts
+  pub count_is : count_of t ≡ t.count
+  count_is = omega (arith, t.array, t.few, length-take t.count t.columns)
+
   -- a place ends where a later one begins, or before
   pub apart : (i k : ℕ) → i < k → k < count_of t → start t i + (col t i).capacity ≤ start t k
-  apart i k l m = omega (arith, t.laid i (omega arith), t.laid k m, span_grows t.columns.items i k l (omega arith))
+  apart i k l m = omega (arith, t.laid i (omega arith), t.laid k m, span_grows (items t) i k l (omega arith))
 
   -- and the places end where the last one does
   pub inside : (k : ℕ) → k < count_of t → start t k + (col t k).capacity ≤ end t
-  inside k l = omega (arith, t.laid k l, span_grows t.columns.items k (count_of t) l l, span_all t.columns.items (count_of t) (omega arith))
+  inside k l = omega (arith, t.laid k l, span_grows (items t) k (count_of t) l l, span_all (items t) (count_of t) (omega arith))
 
   pub end_in_room : end t ≤ t.room
   end_in_room = t.within

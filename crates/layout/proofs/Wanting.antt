@@ -4,7 +4,7 @@ use Rattle.mysql.specs.Types.{size_of}
 use Rattle.layout.specs.declared.record.ColumnRecord.{ColumnRecord}
 use Rattle.layout.specs.declared.table.ColumnTable.{ColumnTable}
 use Rattle.layout.specs.Columns.{no_record, moved, bytes_by, bytes_of, kept, kept_if, counted, widened, wanted, Over, Fits}
-use Rattle.layout.specs.Tables.{count_of, col, need, sum_of, AllFit, Grown, end}
+use Rattle.layout.specs.Tables.{items, count_of, col, need, sum_of, AllFit, Grown, end}
 use Rattle.layout.proofs.Adding.{sum_le, sum_total}
 
 -- where a fixed place has its size
@@ -46,7 +46,7 @@ counted_widened None false capacity told e h = omega arith
 
 -- a wide layout takes no less than a tight one
 pub need_wide : (t : ColumnTable) → need t ≤ sum_of false t
-need_wide t = sum_le t.columns.items
+need_wide t = sum_le (items t)
     (λ k l. let c = col t k in counted_widened (size_of c.code) c.is_null c.capacity c.length (t.sized k l) (t.roomy k l))
 
 counted_fits : (size : Option ℕ) (null : Bool) (capacity told : ℕ) → bytes_by size capacity ≡ capacity → 1 ≤ capacity → (null ≡ false → bytes_by size told ≤ capacity) → counted size null told ≤ capacity
@@ -56,7 +56,7 @@ counted_fits None false capacity told e h f = omega (arith, f refl)
 
 -- where each column fits its place, the need is at most what the places take, and so the arena's length
 pub need_end : (t : ColumnTable) → AllFit t → need t ≤ end t
-need_end t f = sum_total true t.columns.items
+need_end t f = sum_total true (items t)
     (λ k l. let c = col t k in counted_fits (size_of c.code) c.is_null c.capacity c.length (t.sized k l) (t.roomy k l) (f k l))
 
 pub fits_need : (t : ColumnTable) → AllFit t → need t ≤ t.room
@@ -72,7 +72,7 @@ pub fits_wide : (c : ColumnRecord) → Fits c → wanted false c ≡ c.capacity
 fits_wide c f = widened_fits (size_of c.code) c.is_null c.capacity c.length f
 
 pub fits_sum : (t : ColumnTable) → AllFit t → sum_of false t ≤ t.room
-fits_sum t f = let w = t.within in omega (arith, sum_total false t.columns.items (λ k l. omega (arith, fits_wide (col t k) (f k l))))
+fits_sum t f = let w = t.within in omega (arith, sum_total false (items t) (λ k l. omega (arith, fits_wide (col t k) (f k l))))
 
 -- what a column keeps has room in what it gets
 
@@ -129,7 +129,7 @@ module _ (old new : ColumnTable) (g : Grown old new) (k : ℕ) (l : k < count_of
   new_bytes n = omega (arith, new_capacity, bytes_wanted g.tight (col old k) (old.sized k l) n)
 
 -- a column of a list that is the table's, and the capacity that it gets
-module _ (t : ColumnTable) (cs : List ColumnRecord) (e : cs ≡ t.columns.items) (i : ℕ) (l : i < count_of t) (tight : Bool) (n : ℕ) (w : n ≡ wanted tight (get_or cs i no_record)) where
+module _ (t : ColumnTable) (cs : List ColumnRecord) (e : cs ≡ (items t)) (i : ℕ) (l : i < count_of t) (tight : Bool) (n : ℕ) (w : n ≡ wanted tight (get_or cs i no_record)) where
   pub is_col : get_or cs i no_record ≡ col t i
   is_col = ap (λ (z : List ColumnRecord). get_or z i no_record) e
 

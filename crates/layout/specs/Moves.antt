@@ -24,6 +24,6 @@ pub record NotMoved (old : ColumnTable) (a b : List ℕ) : Type 0 where
   pub why : old.room ≤ length a → old.room < need old
   pub same : b ≡ a
 
-abbrev pub Grows : ColumnTable → List ℕ → Option ColumnTable → List ℕ → Type 0
-Grows old a None b = NotMoved old a b
-Grows old a (Some new) b = Moved old a new b
+abbrev pub Grows : {X : Type 0} → ColumnTable → List ℕ → Option X → ColumnTable → List ℕ → Type 0
+Grows old a None new b = NotMoved old a b
+Grows old a (Some x) new b = Moved old a new b

@@ -1,5 +1,5 @@
 -- Tables of columns: the one at an opening, one with reports noted, and one whose places grew.
-use Rattle.std.specs.Prelude.{◌≡◌, ℕ, ◌+◌, ◌<◌, ◌≤◌, Bool, true, false, List, [], ◌∷◌, ◌++◌, map, length, sum_by, Some, None, Option, ◌≢◌, slice_index_or}
+use Rattle.std.specs.Prelude.{◌≡◌, ℕ, ◌+◌, ◌<◌, ◌≤◌, Bool, true, false, List, [], ◌∷◌, ◌++◌, map, length, take, sum_by, Some, None, Option, ◌≢◌, slice_index_or}
 use Rattle.mysql.specs.declared.bind.Column.{Column}
 use Rattle.mysql.specs.Types.{size_of}
 use Rattle.host.specs.declared.records.BindRecord.{BindRecord}
@@ -9,26 +9,30 @@ use Rattle.layout.specs.declared.record.ColumnRecord.{ColumnRecord}
 use Rattle.layout.specs.declared.table.ColumnTable.{ColumnTable}
 use Rattle.layout.specs.Columns.{no_record, bind_of, total, wanted, sum, noted, moved, Fits, Lost, Plain}
 
+-- the columns of a table: as many as it counts, at the front of its array
+abbrev pub items : ColumnTable → List ColumnRecord
+items t = take t.count t.columns
+
 -- how many columns a table has, a column of it, where that begins, and where the places end
 abbrev pub count_of : ColumnTable → ℕ
-count_of t = length t.columns.items
+count_of t = length (items t)
 
 abbrev pub col : ColumnTable → ℕ → ColumnRecord
-col t k = slice_index_or t.columns.items k no_record
+col t k = slice_index_or (items t) k no_record
 
 abbrev pub start : ColumnTable → ℕ → ℕ
 start t k = (col t k).start
 
 abbrev pub end : ColumnTable → ℕ
-end t = total t.columns.items
+end t = total (items t)
 
 -- what the host is told of all columns
 abbrev pub binds : ColumnTable → List BindRecord
-binds t = map bind_of t.columns.items
+binds t = map bind_of (items t)
 
 -- what all columns want
 abbrev pub sum_of : Bool → ColumnTable → ℕ
-sum_of tight t = sum tight t.columns.items
+sum_of tight t = sum tight (items t)
 
 -- the need of the row that was reported
 abbrev pub need : ColumnTable → ℕ
@@ -36,7 +40,7 @@ need t = sum_of true t
 
 -- a table with one column more, whose place begins where those of the others end
 pub record Added (c : ColumnRecord) (old new : ColumnTable) : Type 0 where
-  pub columns : new.columns.items ≡ old.columns.items ++ moved c (end old) c.capacity ∷ []
+  pub columns : items new ≡ items old ++ moved c (end old) c.capacity ∷ []
   pub room : new.room ≡ old.room
   pub ends : end new ≡ end old + c.capacity
 
@@ -70,9 +74,9 @@ pub record OpeningTable (pairs : List Column) (room : ℕ) (t : ColumnTable) : T
 pub record NoOpening (pairs : List Column) (room : ℕ) : Type 0 where
   pub why : length pairs ≤ 64 → room ≤ 65536 → room < opening_size pairs
 
-abbrev pub Opens : List Column → ℕ → Option ColumnTable → Type 0
-Opens pairs room None = NoOpening pairs room
-Opens pairs room (Some t) = OpeningTable pairs room t
+abbrev pub Opens : {X : Type 0} → List Column → ℕ → Option X → ColumnTable → Type 0
+Opens pairs room None t = NoOpening pairs room
+Opens pairs room (Some x) t = OpeningTable pairs room t
 
 -- reports
 

@@ -1,5 +1,5 @@
-// The layout of a session's columns: where each is written in the arena, what was last reported of it, and how places grow. It knows no
-// host.
+//! The layout of a session's columns: where each is written in the arena, what was last reported of it, and how places grow. It knows no
+//! host.
 #![tactic(auto)]
 
 mod bytes;

@@ -1,27 +1,34 @@
-// What was reported of the columns, noted in the table, and what is asked of it.
-ghost use Rattle.std.specs.Prelude.{◌≡◌, ◌↔◌, ◌<◌, ◌≤◌, true, false, length, IsTrue, MatchOption};
-ghost use Rattle.layout.specs.Tables.{count_of, col, NotedAt, Noted, SamePlaces, AllFit, AllPlain, NoneLost, LowestLost, binds, end as end_of};
+//! What was reported of the columns, noted in the table, and what is asked of it.
+ghost use Rattle.std.specs.Prelude.{◌≡◌, ◌↔◌, ◌<◌, ◌≤◌, true, false, length, take, IsTrue, MatchOption};
+ghost use Rattle.layout.specs.Tables.{items, count_of, col, NotedAt, Noted, SamePlaces, AllFit, AllPlain, NoneLost, LowestLost, binds, end as end_of};
 ghost use Rattle.layout.specs.Columns.{Plain};
 
 use crate::record::ColumnRecord;
 use crate::table::ColumnTable;
-use arrayvec::ArrayVec;
 use host::{BindRecord, MOST_COLUMNS, Report};
 
 impl ColumnTable {
-    // How many columns there are.
+    /// How many columns there are.
     pub fn count(&self) -> usize
         ensures value { result ≡ count_of self.now }
         ensures few { result ≤ 64 }
     {
-        self.columns.len()
+        self.count
     }
 
-    // Column `i`, if there is one.
+    /// The columns.
+    #[inline(always)]
+    pub fn columns(&self) -> &[ColumnRecord]
+        ensures { result.now ≡ items self.now }
+    {
+        &self.columns[..self.count]
+    }
+
+    /// Column `i`, if there is one.
     pub fn column(&self, i: usize) -> Option<ColumnRecord>
         ensures { MatchOption result (count_of self.now ≤ i) (λ c. (i < count_of self.now) × (c ≡ col self.now i)) }
     {
-        self.columns.get(i).copied()
+        self.columns().get(i).copied()
     }
 
     /// Notes what was reported of column `i`, if there is one, and says whether it is plain then: not marked truncated, and null or no longer
@@ -33,12 +40,12 @@ impl ColumnTable {
         ensures plain { i < count_of self.old → (IsTrue result ↔ Plain (col self.new i)) }
         ensures past { count_of self.old ≤ i → IsTrue result }
     {
-        if let Some(column) = self.columns.get_mut(i) {
-            column.note(report);
-            column.is_plain()
-        } else {
-            true
+        if i >= self.count {
+            return true;
         }
+        let column = &mut self.columns[i];
+        column.note(report);
+        column.is_plain()
     }
 
     /// Notes the report of each column that has one, and says whether each has one and is plain then.
@@ -55,37 +62,37 @@ impl ColumnTable {
         plain
     }
 
-    // The lowest column of a fixed size that is marked truncated.
+    /// The lowest column of a fixed size that is marked truncated.
     pub fn lost(&self) -> Option<usize>
         ensures { MatchOption result (NoneLost self.now) (LowestLost self.now) }
     {
-        self.columns.iter().position(ColumnRecord::is_lost)
+        self.columns[..self.count]
+            .iter()
+            .position(ColumnRecord::is_lost)
     }
 
-    // Whether what was reported of each column fits its place.
+    /// Whether what was reported of each column fits its place.
     pub fn fits(&self) -> bool
         ensures yes { result ≡ true → AllFit self.now }
         ensures no { result ≡ false → AllFit self.now → ⊥ }
     {
-        !self.columns.iter().any(ColumnRecord::is_over)
+        !self.columns().iter().any(ColumnRecord::is_over)
     }
 
-    // What the host is to be told of the columns. (A loop: `collect` into an ArrayVec can fail, and its caller sees only the Ok case.)
-    pub fn bind_records(&self) -> ArrayVec<BindRecord, MOST_COLUMNS>
-        ensures { result.items ≡ binds self.now }
+    /// Writes what the host is to be told of the columns to the front of an array.
+    pub fn write_binds(&self, records: &mut [BindRecord; MOST_COLUMNS])
+        ensures { take (count_of self.now) records.new ≡ binds self.now }
     {
-        let mut records = ArrayVec::new();
-        for column in self.columns.iter() {
-            records.push(BindRecord::from(*column));
+        for (i, column) in self.columns().iter().enumerate() {
+            records[i] = BindRecord::from(*column);
         }
-        records
     }
 
-    // Where the places end. (No map_or: the sum in a closure needs a fact of the element.)
+    /// Where the places end.
     pub fn end(&self) -> usize
         ensures { result ≡ end_of self.now }
     {
-        match self.columns.last() {
+        match self.columns().last() {
             Some(last) => last.start + last.capacity,
             None => 0,
         }

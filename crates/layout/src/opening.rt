@@ -1,4 +1,4 @@
-// The table at an opening, and one column more of a table.
+//! The table at an opening, and one column more of a table.
 ghost use Rattle.std.specs.Prelude.{◌≡◌, ◌+◌, ◌<◌, ◌≤◌, MatchOption};
 ghost use Rattle.mysql.specs.Types.{size_of};
 ghost use Rattle.layout.specs.Columns.{bytes_by};
@@ -6,51 +6,57 @@ ghost use Rattle.layout.specs.Tables.{Opens, Added, first_capacity, count_of, en
 
 use crate::record::ColumnRecord;
 use crate::table::ColumnTable;
-use arrayvec::ArrayVec;
 use host::MOST_COLUMNS;
 use mysql::{Column, known_buffer_size_for_ffi_type};
 
-// The most bytes that an arena has.
+/// The most bytes that an arena has.
 pub const MOST_BYTES: usize = 65536;
 
 impl ColumnTable {
-    // The table of no session: no columns, and no room.
+    /// The table of no session: no columns, and no room.
     pub fn new() -> ColumnTable
         ensures count { count_of result ≡ 0 }
         ensures room { result.room ≡ 0 }
     {
         ColumnTable {
-            columns: ArrayVec::new(),
+            columns: [ColumnRecord::default(); MOST_COLUMNS],
+            count: 0,
             room: 0,
         }
     }
 
-    // The table of columns that are bound with these codes and flags, in an arena of `room` bytes: places of the least capacity, one
-    // after another. None where there are too many columns, or the arena is too long, or too short for the places. (A loop: a push may
-    // refuse, and needs the end of the places before.)
-    pub fn opening(columns: &[Column], room: usize) -> Option<ColumnTable>
-        ensures { Opens columns.now room result }
+    /// Makes this the table of columns that are bound with these codes and flags, in an arena of `room` bytes: places of the least capacity,
+    /// one after another. None where there are too many columns, or the arena is too long, or too short for the places; which columns it has then
+    /// is left open.
+    pub fn open(&mut self, columns: &[Column], room: usize) -> Option<()>
+        ensures { Opens columns.now room result self.new }
     {
         if columns.len() > MOST_COLUMNS || room > MOST_BYTES {
             return None;
         }
-        let mut table = ColumnTable {
-            columns: ArrayVec::new(),
-            room,
-        };
-        // (Two fields are copied: a column is another type than its record.)
+        self.clear(room);
         for column in columns {
-            table.push(ColumnRecord {
+            self.push(ColumnRecord {
                 code: column.code,
                 flags: column.flags,
                 capacity: least_capacity(column.code),
                 ..ColumnRecord::default()
             })?;
         }
-        Some(table)
+        Some(())
     }
 
-    // Adds a column, in a place of its capacity after the last one. None where the arena is too short for it.
+    /// Leaves no columns, in an arena of `room` bytes.
+    pub(crate) fn clear(&mut self, room: usize)
+        requires { room ≤ 65536 }
+        ensures count { count_of self.new ≡ 0 }
+        ensures room { self.new.room ≡ room }
+    {
+        self.count = 0;
+        self.room = room;
+    }
+
+    /// Adds a column, in a place of its capacity after the last one. None where the arena is too short for it.
     pub(crate) fn push(&mut self, column: ColumnRecord) -> Option<()>
         requires few { count_of self.old < 64 }
         requires some { 1 ≤ column.capacity }
@@ -61,12 +67,13 @@ impl ColumnTable {
         if column.capacity > self.room - start {
             return None;
         }
-        self.columns.push(ColumnRecord { start, ..column });
+        self.columns[self.count] = ColumnRecord { start, ..column };
+        self.count += 1;
         Some(())
     }
 }
 
-// How many bytes a place has at an opening: the size of the code's values, or a byte where they have no one size.
+/// How many bytes a place has at an opening: the size of the code's values, or a byte where they have no one size.
 fn least_capacity(code: u8) -> usize
     ensures { result ≡ first_capacity (size_of code) }
 {

@@ -1,5 +1,5 @@
 -- A row that does not fit its places: new places, and a host that is told of them.
-use Rattle.std.proofs.Common.{◌≡◌, ℕ, ◌+◌, ◌<◌, ◌≤◌, Bool, true, false, cond, eqb, ltb, List, length, get_or, Some, None, Option, refl, ap, ◌∙◌, subst, arith}
+use Rattle.std.proofs.Common.{◌≡◌, ℕ, ◌+◌, ◌<◌, ◌≤◌, Bool, true, false, cond, eqb, ltb, List, map, length, get_or, Some, None, Option, refl, sym, ap, ◌∙◌, subst, arith}
 use Rattle.std.proofs.lemmas.Bool.{or_right}
 use Rattle.mysql.specs.declared.bind.Column.{Column}
 use Rattle.mysql.specs.Types.{size_of}
@@ -9,14 +9,14 @@ use Rattle.host.specs.Fields.{Field, null, held}
 use Rattle.host.specs.Meanings.{Row, Meaning}
 use Rattle.host.specs.Calls.{bind_error, bound_list, after_bind, Reported, Stands}
 use Rattle.layout.specs.declared.table.ColumnTable.{ColumnTable}
-use Rattle.layout.specs.Columns.{kept, Fits}
-use Rattle.layout.specs.Tables.{count_of, col, start, binds, SamePlaces, NoneLost, AllFit}
-use Rattle.layout.specs.Moves.{Moved}
+use Rattle.layout.specs.Columns.{no_record, bind_of, total, kept, Fits}
+use Rattle.layout.specs.Tables.{items, count_of, col, start, binds, SamePlaces, NoneLost, AllFit}
+use Rattle.layout.specs.Moves.{Moved, Beyond}
 use Rattle.layout.proofs.Spans.{kept_le}
 use Rattle.layout.proofs.Binding.{same_bind}
 use Rattle.layout.proofs.Wanting.{new_capacity, new_bytes}
 use Rattle.rows.specs.Bounds.{all_carried}
-use Rattle.rows.specs.Standing.{pairs_of, report_of, StandsWhole}
+use Rattle.rows.specs.Standing.{pair_of, pairs_of, report_of, StandsWhole}
 use Rattle.rows.specs.Settling.{column_field, NotLost, RowIn, Half, Whole, Grew}
 use Rattle.rows.proofs.Columned.{same_pairs, field_known, held_bytes, FieldOf}
 use Rattle.rows.proofs.Pairs.{bind_error_is}
@@ -69,11 +69,10 @@ module _ (m : Meaning) (r : Row) (old : ColumnTable) (a : List ℕ) (row : RowIn
       pairs_is = same_pairs t old count_is w.pairs
 
       -- the host grants the bind
-      module _ (q : Meaning) (records : List BindRecord) (granted : Bool) (same : records ≡ binds t) (answer : granted ≡ eqb (bind_error n records) 0) (after : q ≡ after_bind n records) where
-        no_error : bind_error n records ≡ 0
+      module _ (q : Meaning) (granted : Bool) (answer : granted ≡ eqb (bind_error n (binds t)) 0) (after : q ≡ after_bind n (binds t)) where
+        no_error : bind_error n (binds t) ≡ 0
         no_error =
-            ap (λ (x : Meaning). bind_error x records) w.host
-            ∙ ap (bind_error m) same
+            ap (λ (x : Meaning). bind_error x (binds t)) w.host
             ∙ bind_error_is m t (count_is ∙ row.current.as_many)
             ∙ ap (λ (ps : List Column). cond (all_carried m.carries 0 ps) 0 2036) pairs_is
             ∙ ap (λ (z : Bool). cond z 0 2036) row.current.carried
@@ -84,9 +83,8 @@ module _ (m : Meaning) (r : Row) (old : ColumnTable) (a : List ℕ) (row : RowIn
         host_is : q ≡ record { columns = m.columns; carries = m.carries; coming = m.coming; current = m.current; bound = Some (binds t); error = 0 }
         host_is =
             after
-            ∙ ap (λ (e : ℕ). record { columns = n.columns; carries = n.carries; coming = n.coming; current = n.current; bound = bound_list e records n.bound; error = e }) no_error
-            ∙ ap (λ (x : Meaning). record { columns = x.columns; carries = x.carries; coming = x.coming; current = x.current; bound = Some records; error = 0 }) w.host
-            ∙ ap (λ (bs : List BindRecord). record { columns = m.columns; carries = m.carries; coming = m.coming; current = m.current; bound = Some bs; error = 0 }) same
+            ∙ ap (λ (e : ℕ). record { columns = n.columns; carries = n.carries; coming = n.coming; current = n.current; bound = bound_list e (binds t) n.bound; error = e }) no_error
+            ∙ ap (λ (x : Meaning). record { columns = x.columns; carries = x.carries; coming = x.coming; current = x.current; bound = Some (binds t); error = 0 }) w.host
 
         pub grew : Grew m r old a t q b'
         grew = record {
@@ -103,3 +101,20 @@ module _ (m : Meaning) (r : Row) (old : ColumnTable) (a : List ℕ) (row : RowIn
           beyond = λ p l. let e = places.end_same in w.beyond p (omega arith) ∙ moved.beyond p (omega arith);
           host = host_is;
         }
+
+-- the same of another table that has these columns
+pub grew_as : (m : Meaning) (r : Row) (old : ColumnTable) (a : List ℕ) (t u : ColumnTable) (q : Meaning) (b : List ℕ) → items u ≡ items t → u.room ≡ t.room → Grew m r old a t q b → Grew m r old a u q b
+grew_as m r old a t u q b e f g = record {
+  enough = g.enough;
+  count = ap length e ∙ g.count;
+  room = f ∙ g.room;
+  pairs = ap (map pair_of) e ∙ g.pairs;
+  tight = g.tight;
+  rule_tight = g.rule_tight;
+  rule_wide = g.rule_wide;
+  capacities = λ k l. ap (λ cs. (get_or cs k no_record).capacity) e ∙ g.capacities k l;
+  reported = λ k l. subst (λ cs. Reported (column_field r old k) (get_or cs k no_record).capacity (report_of (get_or cs k no_record))) (sym e) (g.reported k l);
+  whole = λ k l. subst (λ cs. StandsWhole (column_field r old k) (get_or cs k no_record) b) (sym e) (g.whole k l);
+  beyond = subst (λ cs. Beyond (total cs) a b) (sym e) g.beyond;
+  host = g.host ∙ ap (λ bs. record { columns = m.columns; carries = m.carries; coming = m.coming; current = m.current; bound = Some bs; error = 0 }) (sym (ap (map bind_of) e));
+}

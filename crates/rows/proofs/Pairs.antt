@@ -7,7 +7,7 @@ use Rattle.host.specs.Calls.{in_order, carried, bind_error}
 use Rattle.layout.specs.declared.record.ColumnRecord.{ColumnRecord}
 use Rattle.layout.specs.declared.table.ColumnTable.{ColumnTable}
 use Rattle.layout.specs.Columns.{no_record, bind_of}
-use Rattle.layout.specs.Tables.{count_of, no_pair, col, binds}
+use Rattle.layout.specs.Tables.{items, count_of, no_pair, col, binds}
 use Rattle.layout.proofs.Binding.{binds_length, binds_in_order}
 use Rattle.rows.specs.Bounds.{all_carried}
 use Rattle.rows.specs.Standing.{pair_of, pairs_of}
@@ -19,10 +19,10 @@ not_both b p q = absurd cc
 
 module _ (t : ColumnTable) where
   pub pairs_length : length (pairs_of t) ≡ count_of t
-  pairs_length = length-map t.columns.items pair_of
+  pairs_length = length-map (items t) pair_of
 
   pub pair_at : (k : ℕ) → k < count_of t → get_or (pairs_of t) k no_pair ≡ pair_of (col t k)
-  pair_at k l = get_or-map pair_of t.columns.items k no_record no_pair l
+  pair_at k l = get_or-map pair_of (items t) k no_record no_pair l
 
 -- the host carries the codes of the places where it carries those of the pairs
 carried_is : (m : Meaning) (k : ℕ) (cs : List ColumnRecord) → carried m k (map bind_of cs) ≡ all_carried m.carries k (map pair_of cs)
@@ -35,4 +35,4 @@ bind_error_is m t e =
     let n : length (binds t) ≡ length m.columns = binds_length t ∙ e in
     ap (λ (b : Bool). cond (b && in_order 0 (binds t)) (cond (carried m 0 (binds t)) 0 2036) 2034) (eq-eqb (length (binds t)) (length m.columns) n)
     ∙ ap (λ (b : Bool). cond b (cond (carried m 0 (binds t)) 0 2036) 2034) (binds_in_order t)
-    ∙ ap (λ (b : Bool). cond b 0 2036) (carried_is m 0 t.columns.items)
+    ∙ ap (λ (b : Bool). cond b 0 2036) (carried_is m 0 (items t))

@@ -14,7 +14,7 @@ use Rattle.host.specs.Calls.{Reported, Stands}
 use Rattle.layout.specs.declared.record.ColumnRecord.{ColumnRecord}
 use Rattle.layout.specs.declared.table.ColumnTable.{ColumnTable}
 use Rattle.layout.specs.Columns.{wanted, Fits, Lost}
-use Rattle.layout.specs.Tables.{count_of, no_pair, col, binds, sum_of, need, Noted, SamePlaces, AllFit, NoneLost, LowestLost}
+use Rattle.layout.specs.Tables.{items, count_of, no_pair, col, binds, sum_of, need, Noted, SamePlaces, AllFit, NoneLost, LowestLost}
 use Rattle.layout.proofs.Binding.{sized_at}
 use Rattle.layout.proofs.Wanting.{fits_need, fits_wide, fits_sum}
 use Rattle.rows.specs.declared.answers.Fetch.TheVariants as fetch
@@ -105,7 +105,7 @@ module _ (m : Meaning) (r : Row) (t : ColumnTable) (rs : List Report) (a : List 
 
   need_same : need u ≡ row_need r 0 (pairs_of t)
   need_same =
-      need_is r 0 u.columns.items (λ k l.
+      need_is r 0 (items u) (λ k l.
       let z : 0 + k ≡ k = omega arith in
       counted_is (column_field r u k) (size_of (col u k).code) (col u k).capacity (report_of (col u k)) (reported_in k l)
       ∙ ap (λ (n : ℕ). field_need (size_of (col u k).code) (field_at r n (pair_of (col u k)))) (sym z))
@@ -117,9 +117,9 @@ module _ (m : Meaning) (r : Row) (t : ColumnTable) (rs : List Report) (a : List 
       widened_is (column_field r u k) (size_of (col u k).code) (col u k).capacity (report_of (col u k)) (reported_in k l)
       ∙ ap (wide_at r k) (written.each k o)
 
-  wide_same : sum_of false u ≡ wide_sum r 0 t.columns.items
+  wide_same : sum_of false u ≡ wide_sum r 0 (items t)
   wide_same =
-      wide_is r 0 u.columns.items t.columns.items written.count (λ k l.
+      wide_is r 0 (items u) (items t) written.count (λ k l.
       let z : 0 + k ≡ k = omega arith in
       wide_one k l ∙ ap (λ (n : ℕ). wide_at r n (col t k)) (sym z))
 
@@ -129,14 +129,14 @@ module _ (m : Meaning) (r : Row) (t : ColumnTable) (rs : List Report) (a : List 
   rule_wide h k l =
       let o : k < count_of u = omega (arith, written.count) in
       wide_one k o
-      ∙ sym (ap (λ (b : Bool). cond b (wide_at r k (col t k)) (field_need (size_of (col t k).code) (column_field r t k))) (le-leb (wide_sum r 0 t.columns.items) t.room (omega (arith, wide_same, written.room))))
+      ∙ sym (ap (λ (b : Bool). cond b (wide_at r k (col t k)) (field_need (size_of (col t k).code) (column_field r t k))) (le-leb (wide_sum r 0 (items t)) t.room (omega (arith, wide_same, written.room))))
 
   rule_tight : u.room < sum_of false u → (k : ℕ) → k < count_of t → wanted true (col u k) ≡ capacity_after r t k
   rule_tight h k l =
       let o : k < count_of u = omega (arith, written.count) in
       counted_is (column_field r u k) (size_of (col u k).code) (col u k).capacity (report_of (col u k)) (reported_in k o)
       ∙ ap (λ (c : ColumnRecord). field_need (size_of c.code) (field_at r k (pair_of c))) (written.each k l)
-      ∙ sym (ap (λ (b : Bool). cond b (wide_at r k (col t k)) (field_need (size_of (col t k).code) (column_field r t k))) (lt-leb (wide_sum r 0 t.columns.items) t.room (omega (arith, wide_same, written.room))))
+      ∙ sym (ap (λ (b : Bool). cond b (wide_at r k (col t k)) (field_need (size_of (col t k).code) (column_field r t k))) (lt-leb (wide_sum r 0 (items t)) t.room (omega (arith, wide_same, written.room))))
 
   rule : (tight : Bool) → (tight ≡ true → u.room < sum_of false u) → (tight ≡ false → sum_of false u ≤ u.room) → (k : ℕ) → k < count_of t → wanted tight (col u k) ≡ capacity_after r t k
   rule true x y = rule_tight (x refl)

@@ -102,18 +102,14 @@ pub record Grew (m : Meaning) (r : Row) (old : ColumnTable) (a : List ℕ) (t : 
   pub beyond : Beyond (end t) a a'
   pub host : m' ≡ record { columns = m.columns; carries = m.carries; coming = m.coming; current = m.current; bound = Some (binds t); error = 0 }
 
--- there is no room: nothing changed
+-- there is no room: host and arena stay
 pub record NotGrown (m : Meaning) (old : ColumnTable) (a : List ℕ) (f : Fault) (m' : Meaning) (a' : List ℕ) : Type 0 where
   pub fault : f ≡ refused NoRoom
   pub why : old.room < need old
   pub host : m' ≡ m
   pub same_arena : a' ≡ a
 
-abbrev pub GrewAs : Meaning → Row → ColumnTable → List ℕ → Result ColumnTable Fault → Meaning → List ℕ → Type 0
-GrewAs m r old a (Ok t) m' a' = Grew m r old a t m' a'
-GrewAs m r old a (Err f) m' a' = NotGrown m old a f m' a'
-
--- the same, with the new table in the place of the old one
+-- the table has its new places, or stays
 abbrev pub RoomMade : {X : Type 0} → Meaning → Row → ColumnTable → List ℕ → Result X Fault → Meaning → ColumnTable → List ℕ → Type 0
 RoomMade m r old a (Ok x) m' t a' = Grew m r old a t m' a'
 RoomMade m r old a (Err f) m' t a' = (t ≡ old) × NotGrown m old a f m' a'

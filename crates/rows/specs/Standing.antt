@@ -9,7 +9,7 @@ use Rattle.host.specs.Calls.{Reported}
 use Rattle.layout.specs.declared.record.ColumnRecord.{ColumnRecord}
 use Rattle.layout.specs.declared.table.ColumnTable.{ColumnTable}
 use Rattle.layout.specs.Columns.{bytes_of}
-use Rattle.layout.specs.Tables.{count_of, col}
+use Rattle.layout.specs.Tables.{items, count_of, col}
 use Rattle.rows.specs.Bounds.{field_at, field_need}
 
 -- the code and flags that a column of a table is bound with
@@ -17,7 +17,7 @@ abbrev pub pair_of : ColumnRecord → Column
 pair_of c = record { code = c.code; flags = c.flags }
 
 abbrev pub pairs_of : ColumnTable → List Column
-pairs_of t = map pair_of t.columns.items
+pairs_of t = map pair_of (items t)
 
 -- what was last reported of a column
 abbrev pub report_of : ColumnRecord → Report
@@ -41,7 +41,7 @@ wide_sum r k (c ∷ cs) = widened_to (size_of c.code) (field_at r k (pair_of c))
 -- where that sum exceeds the arena, each column gets what the need counts
 abbrev pub capacity_after : Row → ColumnTable → ℕ → ℕ
 capacity_after r t k =
-    cond (nat_le (wide_sum r 0 t.columns.items) t.room)
+    cond (nat_le (wide_sum r 0 (items t)) t.room)
     (widened_to (size_of (col t k).code) (field_at r k (pair_of (col t k))) (col t k).capacity)
     (field_need (size_of (col t k).code) (field_at r k (pair_of (col t k))))
 

@@ -1,22 +1,23 @@
-// What becomes of a row that the host wrote.
+//! What becomes of a row that the host wrote.
 ghost use Rattle.std.specs.Prelude.{◌≡◌, ℕ, ◌<◌, ◌≤◌, length, IfOk, MatchOption, OnOk, slice_index};
 ghost use Rattle.host.specs.declared.records.BindRecord.{BindRecord};
 ghost use Rattle.host.specs.Meanings.{Row};
 ghost use Rattle.layout.specs.Tables.{AllFit, NoneLost, LowestLost, Grown, SamePlaces};
-ghost use Rattle.rows.specs.Settling.{RowGot, Settled, RowIn, GrewAs, RoomMade, Half, WholeAs, PartInto};
+ghost use Rattle.rows.specs.Settling.{RowGot, Settled, RowIn, RoomMade, Half, WholeAs, PartInto};
 
-use host::{Host, Report, bind_all};
+use crate::spare::Spare;
+use host::{Host, Report};
 use layout::ColumnTable;
 use mysql::{Fault, Refusal};
 
-// Notes what the host reported, refuses a row that lost a figure or needs more than the arena has, and otherwise lets the places grow
-// until the row stands there whole. Host, table and arena are lent one by one to the functions below: a struct of three `&mut`, made for
-// one call, would be no plainer.
+/// Notes what the host reported, refuses a row that lost a figure (10) or needs more than the arena has (11), and otherwise lets the places grow
+/// until the row stands there whole.
 pub fn populate_dynamic_buffers<H: Host>(
     host: &mut H,
     table: &mut ColumnTable,
     arena: &mut [u8],
     reports: &[Report],
+    spare: &mut Spare,
 ) -> Result<(), Fault>
     ensures fit { OnOk result (AllFit table.new) }
     ensures came { (row : Row) → RowGot (H.Host.meaning host.old) row table.old reports.now arena.old → Settled (H.Host.meaning host.old) row table.old arena.old result (H.Host.meaning host.new) table.new arena.new }
@@ -29,46 +30,43 @@ pub fn populate_dynamic_buffers<H: Host>(
         return Err(Fault::new(Refusal::NumericOverflow).at(k as u8));
     }
     if !table.fits() {
-        make_room(host, table, arena)?;
+        make_room(host, table, arena, spare)?;
     }
     Ok(())
 }
 
-// Grows, and puts the table of the new places in the place of the old one. (Never inlined: the room for that table would be zeroed for every row.)
+/// Gives the columns new places, fetches what is missing there, and tells the host of them.
 #[cold]
 #[inline(never)]
-fn make_room<H: Host>(host: &mut H, table: &mut ColumnTable, arena: &mut [u8]) -> Result<(), Fault>
+fn make_room<H: Host>(
+    host: &mut H,
+    table: &mut ColumnTable,
+    arena: &mut [u8],
+    spare: &mut Spare,
+) -> Result<(), Fault>
     ensures fit { OnOk result (AllFit table.new) }
     ensures came { (row : Row) → RowIn (H.Host.meaning host.old) row table.old arena.old → NoneLost table.old → RoomMade (H.Host.meaning host.old) row table.old arena.old result (H.Host.meaning host.new) table.new arena.new }
 {
-    let new = grow(host, table, arena)?;
-    *table = new;
+    table
+        .grow(arena, &mut spare.table)
+        .ok_or(Fault::new(Refusal::NoRoom))?;
+    fetch_missing(host, table, &mut spare.table, arena)?;
+    if !spare.table.fits() {
+        return Err(Fault::host(host.error_number()));
+    }
+    spare.bind_host(host)?;
+    table.take_from(&spare.table);
     Ok(())
 }
 
-// The lowest column of which a figure was lost, whether or not the row fits its places.
+/// The lowest column of which a figure was lost, whether or not the row fits its places.
 fn did_numeric_overflow_occur(table: &ColumnTable) -> Option<usize>
     ensures { MatchOption result (NoneLost table.now) (LowestLost table.now) }
 {
     table.lost()
 }
 
-// Gives the columns new places, fetches what is missing there, and tells the host of them.
-fn grow<H: Host>(host: &mut H, old: &ColumnTable, arena: &mut [u8]) -> Result<ColumnTable, Fault>
-    ensures fit { IfOk result AllFit }
-    ensures came { (row : Row) → RowIn (H.Host.meaning host.old) row old.now arena.old → NoneLost old.now → GrewAs (H.Host.meaning host.old) row old.now arena.old result (H.Host.meaning host.new) arena.new }
-{
-    let mut new = old.grow(arena).ok_or(Fault::new(Refusal::NoRoom))?;
-    fetch_missing(host, old, &mut new, arena)?;
-    if !new.fits() {
-        return Err(Fault::host(host.error_number()));
-    }
-    bind_all(host, new.bind_records().as_slice())?;
-    Ok(new)
-}
-
-// Fetches what is missing of each column that was longer than its old place, from there on. (The new columns by number, since they are
-// noted meanwhile. No other function here asks that one table is the other one grown: a struct of both would be no plainer.)
+/// Fetches what is missing of each column that was longer than its old place, from there on.
 fn fetch_missing<H: Host>(
     host: &mut H,
     old: &ColumnTable,
@@ -80,9 +78,9 @@ fn fetch_missing<H: Host>(
     ensures places { SamePlaces new.old new.new }
     ensures came { (row : Row) → Half (H.Host.meaning host.old) row old.now new.old arena.old → WholeAs result (H.Host.meaning host.old) row old.now new.old arena.old (H.Host.meaning host.new) new.new arena.new }
 {
-    for (i, column) in old.columns.iter().enumerate() {
+    for (i, column) in old.columns().iter().enumerate() {
         if column.is_over() {
-            let start = new.columns[i].start;
+            let start = new.columns()[i].start;
             let missing = &mut arena[start + column.capacity..start + column.length as usize];
             let report = fetch_part(host, i, column.capacity, missing)?;
             new.note(i, report);
@@ -91,7 +89,7 @@ fn fetch_missing<H: Host>(
     Ok(())
 }
 
-// Fetches a column from an offset on, as much of it as the part is long.
+/// Fetches a column from an offset on, as much of it as the part is long.
 fn fetch_part<H: Host>(
     host: &mut H,
     column: usize,

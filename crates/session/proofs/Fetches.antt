@@ -5,6 +5,7 @@ use Rattle.mysql.specs.declared.fault.Fault.{Fault}
 use Rattle.mysql.specs.Faults.{host_failed}
 use Rattle.host.specs.declared.records.BindRecord.{BindRecord}
 use Rattle.host.specs.declared.records.Report.{Report}
+use Rattle.rows.specs.declared.spare.Spare.{Spare}
 use Rattle.host.specs.declared.records.Fetched.{Fetched}
 use Rattle.host.specs.declared.records.Fetched.TheVariants as fetched_as
 use Rattle.host.specs.Meanings.{Row, Event, row, failure, Meaning, RowFits, CurrentFits, Formed}
@@ -114,9 +115,9 @@ module _ {H : Type 0} (m : Meaning) (s : Session H) (sound : Sound m s) (a : Lis
     due_is : (x : Result Fetch Fault) → row_answer w.fields t ≡ x → fetched (pairs_of t) (length a) (row w.fields ∷ w.rest) ≡ x
     due_is x e = ap (λ (n : ℕ). row_fetched (first_loss w.fields 0 (pairs_of t)) (ltb n (row_need w.fields 0 (pairs_of t)))) long ∙ e
 
-    module _ (u : ColumnTable) (o : Opened) (h : H) (rs'' : List Report) (m'' : Meaning) (a'' : List ℕ) (e1 : u ≡ t) where
+    module _ (u : ColumnTable) (o : Opened) (h : H) (rs'' : List Report) (sp'' : Spare) (m'' : Meaning) (a'' : List ℕ) (e1 : u ≡ t) where
       abbrev s' : Session H
-      s' = session_of h o rs''
+      s' = session_of h o rs'' sp''
 
       pub row_answered : (x : Result Fetch Fault) → SettledIn m' w.fields u a' x m'' o a'' → x ≡ fetch_answer s a m.coming
       row_answered (Ok x) z = answers (row w.fields ∷ w.rest) (Ok x) (due_is (Ok x) (ap (row_answer w.fields) (sym e1) ∙ z.1.settled.due ∙ ap Ok (sym z.0))) w.next

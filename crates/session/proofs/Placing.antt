@@ -7,7 +7,6 @@ use Rattle.mysql.specs.declared.fault.Fault.{Fault}
 use Rattle.mysql.specs.Answers.{next}
 use Rattle.mysql.specs.Faults.{host_failed}
 use Rattle.mysql.specs.declared.backend.MysqlType.{MysqlType}
-use Rattle.host.specs.declared.records.BindRecord.{BindRecord}
 use Rattle.host.specs.Meanings.{Meaning}
 use Rattle.host.specs.Calls.{with_error, bind_error, after_bind}
 use Rattle.layout.specs.declared.table.ColumnTable.{ColumnTable}
@@ -50,11 +49,11 @@ bind_no : (b : Bool) → eqb (cond b 0 2036) 0 ≡ false → b ≡ false
 bind_no true e = cc
 bind_no false e = refl
 
-module _ (m m' : Meaning) (pairs : List Column) (n : ℕ) (t : ColumnTable) (records : List BindRecord) (r : Bool)
+module _ (m m' : Meaning) (pairs : List Column) (n : ℕ) (t : ColumnTable) (r : Bool)
     (o : OpeningTable pairs n t) (as_many : length pairs ≡ length m.columns) (fits : opening_size pairs ≤ n)
-    (same : records ≡ binds t) (answer : r ≡ eqb (bind_error m records) 0) (after : m' ≡ after_bind m records) where
-  error_is : bind_error m records ≡ cond (all_carried m.carries 0 pairs) 0 2036
-  error_is = rw (same, bind_error_is m t (o.as_many ∙ as_many), pairs_are pairs n t o) refl
+    (answer : r ≡ eqb (bind_error m (binds t)) 0) (after : m' ≡ after_bind m (binds t)) where
+  error_is : bind_error m (binds t) ≡ cond (all_carried m.carries 0 pairs) 0 2036
+  error_is = rw (bind_error_is m t (o.as_many ∙ as_many), pairs_are pairs n t o) refl
 
   module _ (yes : r ≡ true) where
     pub all_there : all_carried m.carries 0 pairs ≡ true
@@ -63,17 +62,17 @@ module _ (m m' : Meaning) (pairs : List Column) (n : ℕ) (t : ColumnTable) (rec
     pub granted_due : placed n m.carries pairs ≡ Ok pairs
     granted_due = fits_arena n m.carries pairs fits ∙ rw all_there refl
 
-    no_error : bind_error m records ≡ 0
+    no_error : bind_error m (binds t) ≡ 0
     no_error = error_is ∙ rw all_there refl
 
     pub granted_host : m' ≡ record { columns = m.columns; carries = m.carries; coming = m.coming; current = m.current; bound = Some (binds t); error = 0 }
-    granted_host = after ∙ rw (no_error, same) refl
+    granted_host = after ∙ rw no_error refl
 
   module _ (no : r ≡ false) where
     missing : all_carried m.carries 0 pairs ≡ false
     missing = bind_no (all_carried m.carries 0 pairs) (sym (ap (λ (e : ℕ). eqb e 0) error_is) ∙ sym answer ∙ no)
 
-    pub an_error : bind_error m records ≡ 2036
+    pub an_error : bind_error m (binds t) ≡ 2036
     an_error = error_is ∙ rw missing refl
 
     pub refused_host : m' ≡ with_error 2036 m

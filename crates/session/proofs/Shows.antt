@@ -90,8 +90,8 @@ module _ {H X Y : Type 0} (s : Session H) (a : List ℕ) (x : X) (y : Result Y F
 
 -- a session that is opened
 module _ {H : Type 0} (s : Session H) (o : Opened) (is : s.opened ≡ Some o) where
-  pub parts : session_of s.host o s.reports ≡ s
-  parts = ap (λ (x : Option Opened). record { host = s.host; opened = x; reports = s.reports }) (sym is)
+  pub parts : session_of s.host o s.reports s.spare ≡ s
+  parts = ap (λ (x : Option Opened). record { host = s.host; opened = x; reports = s.reports; spare = s.spare }) (sym is)
 
   -- its checks come to that of the arena
   pub checked : {X : Type 0} (a : List ℕ) (x : Result X Fault) → cond (eqb (length a) o.table.room) x (Err (refused ArenaLength)) ≡ past_checks s (length a) x

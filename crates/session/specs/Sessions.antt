@@ -16,6 +16,7 @@ use Rattle.layout.specs.Columns.{bytes_of}
 use Rattle.layout.specs.Tables.{count_of, col, binds, end, OpeningTable, SamePlaces}
 use Rattle.layout.specs.Moves.{Beyond}
 use Rattle.rows.specs.declared.answers.Fetch.{Fetch}
+use Rattle.rows.specs.declared.spare.Spare.{Spare}
 use Rattle.rows.specs.Standing.{pair_of, pairs_of, report_of, StandsWhole, Regrown}
 use Rattle.session.specs.declared.answers.Slip.{Slip}
 use Rattle.session.specs.declared.state.Session.{Session}
@@ -38,8 +39,8 @@ module _ {H : Type 0} where
   table_of s = table s.opened
 
   -- an opened session, of its parts
-  abbrev pub session_of : H → state.Opened → List Report → Session H
-  session_of h o rs = record { host = h; opened = Some o; reports = rs }
+  abbrev pub session_of : H → state.Opened → List Report → Spare → Session H
+  session_of h o rs sp = record { host = h; opened = Some o; reports = rs; spare = sp }
 
   -- While a session is opened, its host is bound to exactly the table's places, at codes that it carries. Where a row is shown, it is
   -- the host's current row.
@@ -77,9 +78,9 @@ pub record NotPlaced (m m' : Meaning) (pairs : List Column) (f : Fault) (a a' : 
   pub host : m' ≡ with_error (error_after f m.error) m
   pub same_arena : a' ≡ a
 
-abbrev pub PlacedAs : Result ColumnTable Fault → (m m' : Meaning) → List Column → (a a' : List ℕ) → Type 0
-PlacedAs (Ok t) m m' pairs a a' = Placed m m' pairs t a a'
-PlacedAs (Err f) m m' pairs a a' = NotPlaced m m' pairs f a a'
+abbrev pub PlacedAs : {X : Type 0} → Result X Fault → (m m' : Meaning) → List Column → ColumnTable → (a a' : List ℕ) → Type 0
+PlacedAs (Ok x) m m' pairs t a a' = Placed m m' pairs t a a'
+PlacedAs (Err f) m m' pairs t a a' = NotPlaced m m' pairs f a a'
 
 module _ {H : Type 0} where
   -- granted: the table is that of an opening, the host is bound to its places, these are zeroed, and no other byte changes

@@ -1,6 +1,6 @@
-// What a granted opening hands out.
+//! What a granted opening hands out.
 
-// A slip. It cannot be copied, made otherwise, or let go: closing the session takes it back.
+/// A slip. It cannot be copied, made otherwise, or let go: closing the session takes it back.
 pub struct Slip {
     pub(crate) mark: (),
 }

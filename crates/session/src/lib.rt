@@ -1,4 +1,4 @@
-// A session over a host: it opens a result, fetches its rows into one arena, and shows their columns.
+//! A session over a host: it opens a result, fetches its rows into one arena, and shows their columns.
 #![tactic(auto)]
 
 mod answers;

@@ -1,4 +1,4 @@
-// The opening of a session.
+//! The opening of a session.
 ghost use Rattle.std.specs.Prelude.{◌≡◌, ◌≤◌, false, length, slice_index_or, Ok, Err, MatchResult};
 ghost use Rattle.mysql.specs.Taken.{taken_pair};
 ghost use Rattle.host.specs.Meanings.{no_column};
@@ -8,11 +8,12 @@ ghost use Rattle.session.specs.Sessions.{is_open, IsSound, HoldsRow, PlacedAs, O
 use crate::answers::Slip;
 use crate::state::{Opened, Session};
 use arrayvec::ArrayVec;
-use host::{Host, MOST_COLUMNS, bind_all};
-use layout::{ColumnTable, MOST_BYTES};
+use host::{Host, MOST_COLUMNS};
+use layout::MOST_BYTES;
 use mysql::{Column, Fault, MysqlType, Refusal, taken};
+use rows::Spare;
 
-// The code and flags that a column of a host's result is bound with. No type is wanted of the columns past the end of the list.
+/// The code and flags that a column of a host's result is bound with. No type is wanted of the columns past the end of the list.
 fn bound_column<H: Host>(
     host: &H,
     wanted: &[Option<MysqlType>],
@@ -23,8 +24,7 @@ fn bound_column<H: Host>(
     taken(wanted.get(i).copied().flatten(), host.column(i))
 }
 
-// The codes and flags that all columns are bound with. A loop over numbers, since a host gives a column by its number, as the C API does, and
-// there may be fewer or more wanted types than columns.
+/// The codes and flags that all columns are bound with. There may be fewer or more wanted types than columns.
 fn bound_columns<H: Host>(
     host: &H,
     wanted: &[Option<MysqlType>],
@@ -39,22 +39,26 @@ fn bound_columns<H: Host>(
     Ok(pairs)
 }
 
-// Lays the bound columns out, tells the host of their places, and zeroes these.
+/// Lays the bound columns out, tells the host of their places, and zeroes these.
 fn place_columns<H: Host>(
     host: &mut H,
     pairs: &[Column],
     arena: &mut [u8],
-) -> Result<ColumnTable, Fault>
-    ensures { length pairs.now ≡ length (H.Host.meaning host.old).columns → length arena.old ≤ 65536 → PlacedAs result (H.Host.meaning host.old) (H.Host.meaning host.new) pairs.now arena.old arena.new }
+    spare: &mut Spare,
+) -> Result<(), Fault>
+    ensures { length pairs.now ≡ length (H.Host.meaning host.old).columns → length arena.old ≤ 65536 → PlacedAs result (H.Host.meaning host.old) (H.Host.meaning host.new) pairs.now spare.new.table arena.old arena.new }
 {
-    let table = ColumnTable::opening(pairs, arena.len()).ok_or(Fault::new(Refusal::LayoutTooLong))?;
-    bind_all(host, table.bind_records().as_slice())?;
-    arena[..table.end()].fill(0);
-    Ok(table)
+    spare
+        .table
+        .open(pairs, arena.len())
+        .ok_or(Fault::new(Refusal::LayoutTooLong))?;
+    spare.bind_host(host)?;
+    arena[..spare.table.end()].fill(0);
+    Ok(())
 }
 
 impl<H: Host> Session<H> {
-    // Binds the columns of the host's result to places in the arena, and hands out a slip.
+    /// Binds the columns of the host's result to places in the arena, and hands out a slip.
     pub fn open(&mut self, arena: &mut [u8], wanted: &[Option<MysqlType>]) -> Result<Slip, Fault>
         ensures after { Opens H.Host.meaning result wanted.now self.old self.new arena.old arena.new }
         ensures sound { IsSound H.Host.meaning self.old → IsSound H.Host.meaning self.new }
@@ -69,16 +73,16 @@ impl<H: Host> Session<H> {
         self.bind_to(arena, wanted)
     }
 
-    // Binds the columns of a session that is not opened yet.
+    /// Binds the columns of a session that is not opened yet.
     fn bind_to(&mut self, arena: &mut [u8], wanted: &[Option<MysqlType>]) -> Result<Slip, Fault>
         requires unopened { is_open self.old ≡ false }
         requires short { length arena.old ≤ 65536 }
         ensures { Opens H.Host.meaning result wanted.now self.old self.new arena.old arena.new }
     {
         let pairs = bound_columns(&self.host, wanted)?;
-        let table = place_columns(&mut self.host, &pairs, arena)?;
+        place_columns(&mut self.host, &pairs, arena, &mut self.spare)?;
         self.opened = Some(Opened {
-            table,
+            table: self.spare.table,
             shown: false,
         });
         Ok(Slip { mark: () })

@@ -1,4 +1,4 @@
-// Readings of the row that is shown.
+//! Readings of the row that is shown.
 ghost use Rattle.std.specs.Prelude.{◌≡◌, ◌==◌, cond, true, length, Ok, Err};
 ghost use Rattle.mysql.specs.declared.fault.Refusal.TheVariants.{ArenaLength};
 ghost use Rattle.mysql.specs.Faults.{refused};
@@ -11,7 +11,7 @@ use mysql::{Fault, MysqlType, Refusal};
 use readings::{FromSql, MysqlValue, from_nullable_sql};
 
 impl Opened {
-    // The check of the arena that a fetch and a reading make: it is as long as it was at the opening.
+    /// The check of the arena that a fetch and a reading make: it is as long as it was at the opening.
     pub(crate) fn check(&self, arena: usize) -> Result<(), Fault>
         ensures { result ≡ cond (arena == self.now.table.room) (Ok tt) (Err (refused ArenaLength)) }
     {
@@ -22,7 +22,7 @@ impl Opened {
         }
     }
 
-    // What a column's record and place say, where the arena is as long as it was.
+    /// What a column's record and place say, where the arena is as long as it was.
     fn look<'s, 'a>(
         &'s self,
         arena: &'a [u8],
@@ -51,7 +51,7 @@ impl Opened {
 }
 
 impl<H: Host> Session<H> {
-    // What the shown row has in a column: none for a null, or bytes with their type.
+    /// What the shown row has in a column: none for a null, or bytes with their type.
     pub fn read<'s, 'a>(
         &'s self,
         arena: &'a [u8],
@@ -65,7 +65,7 @@ impl<H: Host> Session<H> {
         opened.look(arena, column)
     }
 
-    // What the shown row has in a column, as a value of a type: a null is refused, and a fault of the reading names the column.
+    /// What the shown row has in a column, as a value of a type: a null is refused, and a fault of the reading names the column.
     pub fn read_as<T: FromSql>(&self, arena: &[u8], column: usize) -> Result<T, Fault>
         ensures exact { result ≡ read_as T.FromSql.reads column (reading self.now arena.now column) }
         ensures row { IsSound H.Host.meaning self.now → HoldsRow H.Host.meaning self.now arena.now → passes self.now arena.now ≡ true → result ≡ read_as T.FromSql.reads column (row_due H.Host.meaning self.now column) }
@@ -76,7 +76,7 @@ impl<H: Host> Session<H> {
 }
 
 impl Value<'_, '_> {
-    // The bytes, with their type.
+    /// The bytes, with their type.
     pub fn value(&self) -> MysqlValue<'_>
         ensures { result ≡ self.now.value }
     {

@@ -58,6 +58,22 @@ row_next cs n bs l h =
     ∙ ap (λ fs. taken (row fs) x.rest) (sym (fields_in_is cs bs x.first x.rest x.was))
     ∙ ap (λ r. taken (row (fields_in cs bs)) r) (sym (rest_is cs bs x.first x.rest x.was))
 
+-- a row that is next has a field for each column
+fields_all : (cs : List Column) (bs : List ℕ) (fs : List Field) (r : List ℕ) → take_fields cs bs ≡ taken fs r → length fs ≡ length cs
+fields_all [] bs fs r h = let e : fs ≡ [] = cc in ap length e
+fields_all (c ∷ cs) bs fs r h =
+    let x = next_split (take_field c.code bs) (λ f q. next (take_fields cs q) (λ gs s. taken (f ∷ gs) s)) fs r h in
+    let y = next_split (take_fields cs x.rest) (λ gs s. taken (x.first ∷ gs) s) fs r x.then in
+    let e : x.first ∷ y.first ≡ fs = let k = y.then in cc in
+    sym (ap length e) ∙ ap suc (fields_all cs x.rest y.first y.rest y.was)
+
+pub fields_stand : (cs : List Column) (n : ℕ) (bs rest : List ℕ) → 1 ≤ n → length (events_in cs n bs) ≡ n → bs ≡ 0 ∷ rest → length (fields_in cs rest) ≡ length cs
+fields_stand cs n bs rest l h first =
+    let stand : length (events_in cs n (0 ∷ rest)) ≡ n = subst (λ b. length (events_in cs n b) ≡ n) first h in
+    let p = one_taken cs n (0 ∷ rest) l stand in
+    let x = next_split (take_fields cs rest) (λ fs r. taken (row fs) r) p.0 p.1 p.2 in
+    ap length (fields_in_is cs rest x.first x.rest x.was) ∙ fields_all cs rest x.first x.rest x.was
+
 -- a failure is next
 pub failure_next : (cs : List Column) (n : ℕ) (bs rest : List ℕ) (number : ℕ) (r : List ℕ) → 1 ≤ n → take_event cs bs ≡ event_by cs 1 rest → take2 rest ≡ taken number r → (number ≡ 0 → ⊥)
     → (es : List Event) × (events_in cs n bs ≡ failure number ∷ es)

@@ -3,7 +3,6 @@ use Rattle.std.specs.Prelude.{◌≡◌, ℕ, ◌≤◌, List, [], ◌∷◌, le
 use Rattle.mysql.specs.declared.fault.Fault.{Fault}
 use Rattle.mysql.specs.declared.fault.Refusal.TheVariants.{BrokenTape}
 use Rattle.mysql.specs.Faults.{refused}
-use Rattle.tape.specs.declared.field.Field.{Field as FieldView}
 use Rattle.tape.specs.declared.event.Row.{Row as RowView}
 use Rattle.tape.specs.declared.event.Event.{Event as EventView}
 use Rattle.tape.specs.declared.event.Event.TheVariants as view_event
@@ -15,7 +14,7 @@ use Rattle.mysql.specs.declared.bind.Column.{Column}
 use Rattle.host.specs.Fields.{Field}
 use Rattle.tape.specs.Format.{Event, row, failure, Contents, TapeOf, NoTape}
 use Rattle.tape.specs.Decode.{Taken, taken, broken}
-use Rattle.tape.specs.Views.{columns_in, after_fields, events_in, field_of, row_of, event_of, row_event, EventColumned}
+use Rattle.tape.specs.Views.{columns_in, after_fields, events_in, row_of, event_of, row_event, EventColumned}
 
 -- what lies in the bytes of columns and the bytes of so many events
 abbrev pub contents_in : (columns events : List ℕ) (count : ℕ) → Contents
@@ -68,18 +67,13 @@ pub record GivesEvents (before : Events) (e : Option EventView) (after : Events)
   pub columned : EachColumned before.columns.now e
   pub stand : Stand before → Stand after
 
--- the bytes after a row's fields
-abbrev pub bytes_after : Fields → List ℕ
-bytes_after s = after_fields (columns_in s.rest.columns.now) s.rest.bytes.now
-
--- a step of going through fields: they end where they did
-pub record GivesFields (before : Fields) (f : Option FieldView) (after : Fields) : Type 0 where
-  pub gives : Gives fields_left field_of before f after
-  pub ends : bytes_after after ≡ bytes_after before
-
 -- this event is the next one
 abbrev pub IsNext : Events → Event → Type 0
 IsNext s e = (es : List Event) × (events_left s ≡ e ∷ es)
+
+-- each column has a field in a row's bytes
+abbrev pub RowStands : RowView → Type 0
+RowStands r = length (row_of r) ≡ length (columns_in r.columns.now)
 
 -- a row begins what is left, and its fields are at the front of these bytes
 pub record RowNext (s : Events) (r : RowView) : Type 0 where
@@ -87,6 +81,7 @@ pub record RowNext (s : Events) (r : RowView) : Type 0 where
   pub columned : r.columns.now ≡ s.columns.now
   pub first : s.bytes.now ≡ 0 ∷ r.bytes.now
   pub next : Stand s → IsNext s (row (row_of r))
+  pub stands : Stand s → RowStands r
 
 -- what is next and is not taken off: no event, a row or a failure
 abbrev pub Peeks : Events → Option EventView → Type 0

@@ -1,4 +1,4 @@
-// Recorded results, read from their bytes.
+//! Recorded results, read from their bytes.
 #![tactic(auto)]
 
 mod event;
@@ -11,4 +11,4 @@ pub use event::{Event, Row};
 pub use field::Field;
 pub use parts::Recording;
 pub use recording::{COLUMN_SIZE, Columns, Events, Fields};
-pub use walk::{take_column, take_event};
+pub use walk::{take_column, take_event, take_field};

@@ -1,9 +1,9 @@
-// A recorded result, and how it is gone through: its columns, its events, and the fields of a row, one after the other.
+//! A recorded result, and how it is gone through: its columns, its events, and the fields of a row, one after the other.
 ghost use Rattle.std.specs.Prelude.{◌≡◌, ◌^◌, ◌<◌, [], length, Some};
 ghost use Rattle.std.specs.Option.{option_map};
 ghost use Rattle.tape.specs.Decode.{take_events, take_tape, left};
-ghost use Rattle.tape.specs.Views.{field_of, row_of, event_of, columns_in, after_fields};
-ghost use Rattle.tape.specs.Recordings.{whole, Opened, contents_in, contents, Gives, GivesEvents, GivesFields, Stand, Peeks, PassesRow, bytes_after, columns_left, event_columns, events_left, fields_left};
+ghost use Rattle.tape.specs.Views.{field_of, row_of, event_of, columns_in};
+ghost use Rattle.tape.specs.Recordings.{whole, Opened, contents_in, contents, Gives, GivesEvents, Stand, Peeks, PassesRow, columns_left, event_columns, events_left, fields_left};
 ghost use Rattle.std.specs.List.{slice_get};
 ghost use Rattle.std.specs.Iterator.{at_most};
 
@@ -14,10 +14,10 @@ use crate::walk::{NO_FAILURE, take_column, take_event, take_field, take_u16};
 use host::MOST_COLUMNS;
 use mysql::{Column, Fault, Refusal};
 
-// How many bytes a column takes.
+/// How many bytes a column takes.
 pub const COLUMN_SIZE: usize = 5;
 
-// The recording that bytes hold.
+/// The recording that bytes hold.
 fn read(bytes: &[u8]) -> Option<Recording<'_>>
     ensures { take_tape bytes.now ≡ whole result }
 {
@@ -43,21 +43,21 @@ fn read(bytes: &[u8]) -> Option<Recording<'_>>
 }
 
 impl<'a> Recording<'a> {
-    // Takes bytes that are a tape, and refuses all others.
+    /// Takes bytes that are a tape, and refuses all others.
     pub fn new(bytes: &'a [u8]) -> Result<Recording<'a>, Fault>
         ensures { Opened bytes.now result }
     {
         read(bytes).ok_or(Fault::new(Refusal::BrokenTape))
     }
 
-    // The bytes of its columns, those of its events, and how many events there are, for a caller that keeps them apart.
+    /// The bytes of its columns, those of its events, and how many events there are, for a caller that keeps them apart.
     pub fn parts(&self) -> (&'a [u8], &'a [u8], u16)
         ensures { contents self.now ≡ contents_in result.0.now result.1.now result.2 }
     {
         (self.columns, self.events, self.count)
     }
 
-    // Its columns, one after the other.
+    /// Its columns, one after the other.
     pub fn columns(&self) -> Columns<'a>
         ensures all { columns_left result ≡ (contents self.now).columns }
         ensures few { length (columns_left result) < 2 ^ 64 }
@@ -67,7 +67,7 @@ impl<'a> Recording<'a> {
         }
     }
 
-    // Its events, one after the other.
+    /// Its events, one after the other.
     pub fn events(&self) -> Events<'a>
         ensures all { events_left result ≡ (contents self.now).events }
         ensures columned { event_columns result ≡ (contents self.now).columns }
@@ -83,31 +83,30 @@ impl<'a> Recording<'a> {
 }
 
 impl<'a> Row<'a> {
-    // Its fields, one after the other.
+    /// Its fields, one after the other.
     pub fn fields(&self) -> Fields<'a>
         ensures all { fields_left result ≡ row_of self.now }
-        ensures ends { bytes_after result ≡ after_fields (columns_in self.now.columns.now) self.now.bytes.now }
         ensures few { length (fields_left result) < 2 ^ 64 }
     {
         Fields { rest: *self }
     }
 }
 
-// The columns that are to come.
+/// The columns that are to come.
 #[derive(Clone, Copy)]
 pub struct Columns<'a> {
     pub(crate) bytes: &'a [u8],
 }
 
 impl Columns<'_> {
-    // How many there are.
+    /// How many there are.
     pub fn len(&self) -> usize
         ensures { result ≡ length (columns_left self.now) }
     {
         self.bytes.len() / COLUMN_SIZE
     }
 
-    // The one at an index, found by its place among the bytes, so that asking for each of them stays linear.
+    /// The one at an index, in constant time.
     pub fn get(&self, i: usize) -> Option<Column>
         ensures { result ≡ slice_get (columns_left self.now) i }
     {
@@ -133,7 +132,7 @@ impl Iterator for Columns<'_> {
     }
 }
 
-// The events that are to come. Their count stands beside their bytes, since no slice of bytes knows how many events it holds.
+/// The events that are to come: their bytes, and how many there are.
 #[derive(Clone, Copy)]
 pub struct Events<'a> {
     pub(crate) columns: &'a [u8],
@@ -142,7 +141,7 @@ pub struct Events<'a> {
 }
 
 impl<'a> Events<'a> {
-    // The columns that each of its rows has a field for.
+    /// The columns that each of its rows has a field for.
     pub fn columns(&self) -> Columns<'a>
         ensures { columns_left result ≡ event_columns self.now }
     {
@@ -173,8 +172,8 @@ impl<'a> Events<'a> {
         }
     }
 
-    /// Takes the row off that `peek` showed, of which `rest` is what its fields leave: what `Fields::rest` gives once they are gone through. With
-    /// any other row or bytes, nothing is said of the events that are then left.
+    /// Takes the row off that `peek` showed, of which `rest` is what its fields leave: the bytes after the last of them, as `take_field` gives
+    /// these. With any other row or bytes, nothing is said of the events that are then left.
     #[inline(always)]
     pub fn pass_row(&mut self, row: Row<'a>, rest: &'a [u8])
         ensures passed { PassesRow self.old row.entry rest.now self.new }
@@ -184,7 +183,7 @@ impl<'a> Events<'a> {
         self.count = self.count.saturating_sub(1);
     }
 
-    // Lets no more of them come.
+    /// Lets no more of them come.
     pub fn stop(&mut self)
         ensures none { events_left self.new ≡ [] }
         ensures stand { Stand self.new }
@@ -193,7 +192,7 @@ impl<'a> Events<'a> {
         self.count = 0;
     }
 
-    // The bytes after them. A loop over how many there are: what is gone through is the bytes, and no list or slice knows the number.
+    /// The bytes after them; none where they do not all stand.
     fn end(&self) -> Option<&'a [u8]>
         ensures { left (take_events (columns_in self.now.columns.now) self.now.count self.now.bytes.now) ≡ option_map (λ x. x.now) result }
     {
@@ -221,25 +220,16 @@ impl<'a> Iterator for Events<'a> {
     }
 }
 
-// The fields of a row that are to come, as what is left of the row.
+/// The fields of a row that are to come, as what is left of the row.
 #[derive(Clone, Copy)]
 pub struct Fields<'a> {
     pub(crate) rest: Row<'a>,
 }
 
-impl<'a> Fields<'a> {
-    /// The bytes that are not gone through: where no field is left, those after the row's fields.
-    pub fn rest(&self) -> &'a [u8]
-        ensures { fields_left self.now ≡ [] → result.now ≡ bytes_after self.now }
-    {
-        self.rest.bytes
-    }
-}
-
 impl<'a> Iterator for Fields<'a> {
     type Item = Field<'a>;
 
-    ghost next_gives = { GivesFields };
+    ghost next_gives = { Gives fields_left field_of };
 
     ghost remaining = { λ s. at_most (length (fields_left s)) };
 

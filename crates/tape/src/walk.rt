@@ -1,4 +1,4 @@
-// Steps over a tape's bytes: each takes one thing off their front, and gives it with the bytes after it.
+//! Steps over a tape's bytes: each takes one thing off their front, and gives it with the bytes after it.
 ghost use Rattle.std.specs.Prelude.{◌≡◌, ℕ};
 ghost use Rattle.std.specs.Option.{option_map};
 ghost use Rattle.tape.specs.Decode.{take2, take4, take_held, take_field, take_fields, take_column, take_event, left};
@@ -9,11 +9,10 @@ use crate::field::Field;
 use crate::recording::Columns;
 use mysql::{Column, known_buffer_size_for_ffi_type};
 
-// The number that no failure has in the format.
+/// The number that no failure has in the format.
 pub(crate) const NO_FAILURE: u16 = 0;
 
-// A number in two bytes. It and the next stay two functions: each is two lines over `split_first_chunk`, and one over both numbers would need a
-// trait of its own.
+/// A number in two bytes, the low one first.
 #[inline(always)]
 pub fn take_u16(bytes: &[u8]) -> Option<(u16, &[u8])>
     ensures { take2 bytes.now ≡ off (λ n. n) result }
@@ -22,7 +21,7 @@ pub fn take_u16(bytes: &[u8]) -> Option<(u16, &[u8])>
     Some((u16::from_le_bytes(*number), rest))
 }
 
-// A number in four bytes.
+/// A number in four bytes, the lowest first.
 #[inline(always)]
 pub fn take_u32(bytes: &[u8]) -> Option<(u32, &[u8])>
     ensures { take4 bytes.now ≡ off (λ n. n) result }
@@ -31,7 +30,7 @@ pub fn take_u32(bytes: &[u8]) -> Option<(u32, &[u8])>
     Some((u32::from_le_bytes(*number), rest))
 }
 
-// A field that is not null, after its first byte.
+/// A field that is not null, after its first byte.
 #[inline(always)]
 fn take_held(code: u8, lost: bool, bytes: &[u8]) -> Option<(Field<'_>, &[u8])>
     ensures { take_held code lost bytes.now ≡ off field_of result }
@@ -56,7 +55,7 @@ fn take_held(code: u8, lost: bool, bytes: &[u8]) -> Option<(Field<'_>, &[u8])>
     }
 }
 
-// A field of a column with this code. The bytes 0, 1 and 2 are the format's.
+/// A field of a column with this code. The bytes 0, 1 and 2 are the format's.
 #[inline(always)]
 pub fn take_field(code: u8, bytes: &[u8]) -> Option<(Field<'_>, &[u8])>
     ensures { take_field code bytes.now ≡ off field_of result }
@@ -69,7 +68,7 @@ pub fn take_field(code: u8, bytes: &[u8]) -> Option<(Field<'_>, &[u8])>
     }
 }
 
-// A column.
+/// A column.
 #[inline(always)]
 pub fn take_column(bytes: &[u8]) -> Option<(Column, &[u8])>
     ensures { take_column bytes.now ≡ off (λ c. c) result }
@@ -79,7 +78,7 @@ pub fn take_column(bytes: &[u8]) -> Option<(Column, &[u8])>
     Some((Column { code: *code, flags }, rest))
 }
 
-// The bytes after the fields of a row with these columns.
+/// The bytes after the fields of a row with these columns.
 #[inline(always)]
 fn skip_fields<'a>(columns: &[u8], bytes: &'a [u8]) -> Option<&'a [u8]>
     ensures { left (take_fields (columns_in columns.now) bytes.now) ≡ option_map (λ x. x.now) result }
@@ -91,7 +90,7 @@ fn skip_fields<'a>(columns: &[u8], bytes: &'a [u8]) -> Option<&'a [u8]>
     Some(rest)
 }
 
-// An event of a recording with these columns. The bytes 0 and 1 are the format's.
+/// An event of a recording with these columns. The bytes 0 and 1 are the format's.
 pub fn take_event<'a>(columns: &'a [u8], bytes: &'a [u8]) -> Option<(Event<'a>, &'a [u8])>
     ensures taken { take_event (columns_in columns.now) bytes.now ≡ off event_of result }
     ensures columned { Columned columns.now result }

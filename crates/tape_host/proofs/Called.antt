@@ -8,17 +8,17 @@ use Rattle.host.specs.declared.records.BindRecord.{BindRecord}
 use Rattle.host.specs.declared.records.Report.{Report}
 use Rattle.host.specs.Meanings.{Meaning, no_column}
 use Rattle.host.specs.Calls.{in_order, all_end_by, carried, bind_error, allows, record_of, no_record, with_error, part_error, PartRefused, FailureCame}
-use Rattle.tape.specs.declared.event.Row.{Row as RowView}
 use Rattle.tape.specs.declared.recording.Events.{Events}
 use Rattle.tape.specs.declared.event.Event.TheVariants as view
 use Rattle.tape.specs.Views.{columns_in, event_of}
 use Rattle.tape.specs.Format as recorded
 use Rattle.tape.specs.declared.event.Event.{Event as EventView}
 use Rattle.tape.specs.Recordings.{GivesEvents, Stand, event_columns, events_left}
+use Rattle.tape_host.specs.declared.current.Current.{Current}
 use Rattle.tape_host.specs.declared.tapes.Tape.{Tape}
-use Rattle.std.specs.Option.{option_map, unwrap_or}
-use Rattle.tape_host.specs.Tapes.{own_code, event_shown, columns_of, current_of, bound_of, places_of, means}
-use Rattle.tape_host.specs.Wholes.{own_codes}
+use Rattle.std.specs.Option.{unwrap_or}
+use Rattle.tape_host.specs.Tapes.{own_code, event_shown, columns_of, current_of, bound_if, bound_of, places_of, means}
+use Rattle.tape_host.specs.Codes.{own_codes}
 
 -- the record of a column
 
@@ -62,7 +62,7 @@ module _ (t : Tape) where
         ∙ ap (λ x. cond x 0 2036) (carried_is 0 bs ∙ e)
 
   -- a column that is not bound
-  pub part_refused : (column : ℕ) (row : RowView) (report : Report) (part : List ℕ) → t.current ≡ Some row → record_of (means t) column ≡ None
+  pub part_refused : (column : ℕ) (row : Current) (report : Report) (part : List ℕ) → t.current ≡ Some row → record_of (means t) column ≡ None
       → (m' : Meaning) → m' ≡ with_error 2034 (means t) → PartRefused (means t) m' column report report part part
   part_refused column row report part cur none m' after =
       let h : part_error (means t).current (record_of (means t) column) ≡ 2034 = ap (λ o. part_error (current_of o) (record_of (means t) column)) cur ∙ ap (part_error (current_of (Some row))) none in
@@ -83,26 +83,20 @@ module _ (t : Tape) where
       says None e = cc
       says (Some bs) e = let p = and_parts (all_end_by arena bs) (eqb reports (length cs)) e in (refl, p.0, eqb-true reports (length cs) p.1)
 
-  -- the columns and what is bound stay, as events are taken off
+  -- the columns stay, as events are taken off
   module _ (after : Events) (same : after.columns.now ≡ t.events.columns.now) where
-    pub bound_stays : option_map (take (length (event_columns after))) t.records ≡ bound_of t
-    bound_stays = ap (λ bs. option_map (take (length (columns_in bs))) t.records) same
-
-    pub places_stay : unwrap_or (option_map (take (length (event_columns after))) t.records) [] ≡ places_of t
-    places_stay = ap (λ o. unwrap_or o []) bound_stays
-
     -- what a tape means after one more event
-    abbrev pub means_on : Option RowView → ℕ → Meaning
+    abbrev pub means_on : Option Current → ℕ → Meaning
     means_on row error = record {
       columns = event_columns after;
       carries = own_code (event_columns after);
       coming = map event_shown (events_left after);
       current = current_of row;
-      bound = option_map (take (length (event_columns after))) t.records;
+      bound = bound_of t;
       error = error;
     }
 
-    pub on_is : (row : Option RowView) (error : ℕ)
+    pub on_is : (row : Option Current) (error : ℕ)
         → means_on row error ≡ record { columns = cs; carries = own_code cs; coming = map event_shown (events_left after); current = current_of row; bound = bound_of t; error = error }
     on_is row error =
         ap (λ bs. record {
@@ -110,7 +104,7 @@ module _ (t : Tape) where
           carries = own_code (columns_in bs);
           coming = map event_shown (events_left after);
           current = current_of row;
-          bound = option_map (take (length (columns_in bs))) t.records;
+          bound = bound_of t;
           error = error;
         }) same
 
@@ -129,6 +123,22 @@ module _ (t : Tape) where
       as_many_reports = refl;
       untouched = record { same_length = refl; same_bytes = λ p out. refl };
     }
+
+-- the places are in order
+ordered_if : (b : Bool) (bs : List BindRecord) → (b ≡ true → in_order 0 bs ≡ true) → in_order 0 (unwrap_or (bound_if b bs) []) ≡ true
+ordered_if false bs h = refl
+ordered_if true bs h = h refl
+
+pub places_ordered : (t : Tape) → in_order 0 (places_of t) ≡ true
+places_ordered t = ordered_if t.is_bound (take t.width t.records) t.ordered
+
+-- each is bound at its column's own code
+coded_if : (b : Bool) (columns : List Column) (bs : List BindRecord) → (b ≡ true → own_codes columns bs ≡ true) → own_codes columns (unwrap_or (bound_if b bs) []) ≡ true
+coded_if false columns bs h = refl
+coded_if true columns bs h = h refl
+
+pub places_coded : (t : Tape) → own_codes (columns_of t) (places_of t) ≡ true
+places_coded t = coded_if t.is_bound (columns_of t) (take t.width t.records) t.coded
 
 -- a failure that is next is taken off
 pub failure_taken : (s s' : Events) (o : Option EventView) (n : ℕ) (es : List recorded.Event) → events_left s ≡ recorded.failure n ∷ es → GivesEvents s o s'

@@ -9,7 +9,7 @@ use Rattle.tape.specs.Format.{Contents, TapeOf}
 use Rattle.tape.specs.declared.recording.Events.{Events}
 use Rattle.tape.specs.Recordings.{event_columns, events_left}
 use Rattle.tape_host.specs.Tapes.{own_code, event_shown, Holds}
-use Rattle.tape_host.specs.Wholes.{own_codes}
+use Rattle.tape_host.specs.Codes.{own_codes}
 
 -- what a new tape means
 abbrev pub new_means : Events → Meaning

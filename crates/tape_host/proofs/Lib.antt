@@ -1,3 +1,4 @@
 pub mod Columned
 pub mod Copied
 pub mod Called
+pub mod Taking

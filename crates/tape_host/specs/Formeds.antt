@@ -7,10 +7,10 @@ use Rattle.std.proofs.lemmas.Bool.{eqb-true, and_parts}
 use Rattle.host.specs.Fields.{Field, null, FieldAt}
 use Rattle.host.specs.Meanings.{Formed, RowFits, EventFits, CurrentFits, no_column}
 use Rattle.std.specs.Option.{ForSome}
-use Rattle.tape.specs.declared.event.Row.{Row as RowView}
 use Rattle.tape.specs.Format as recorded
 use Rattle.tape.specs.Views.{columns_in, row_of}
 use Rattle.tape.proofs.Fitting.{Fitting, fields_fit, events_fit, columns_fit}
+use Rattle.tape_host.specs.declared.current.Current.{Current}
 use Rattle.tape_host.specs.declared.tapes.Tape.{Tape}
 use Rattle.tape_host.specs.Tapes.{shown, event_shown, columns_of, current_of, means}
 
@@ -27,13 +27,15 @@ events_fit_in : (t : Tape) (es : List recorded.Event) → AllByRecursion (Fittin
 events_fit_in t [] h = tt
 events_fit_in t (e ∷ es) h = (event_fits t e h.0, events_fit_in t es h.1)
 
-current_fits : (t : Tape) (o : Option RowView) → ForSome o (λ r. r.columns.now ≡ t.events.columns.now) → CurrentFits (means t) (current_of o)
+current_fits : (t : Tape) (o : Option Current) → ForSome o (λ c. c.row.columns.now ≡ t.events.columns.now) → CurrentFits (means t) (current_of o)
 current_fits t None h = tt
-current_fits t (Some r) h = row_fits t (row_of r) (subst (λ bs. (k : ℕ) → FieldAt (get_or (columns_in bs) k no_column).code (slice_index_or (row_of r) k null)) (h r refl) (fields_fit (columns_in r.columns.now) r.bytes.now))
+current_fits t (Some c) h =
+    let r = c.row in
+    row_fits t (row_of r) (subst (λ bs. (k : ℕ) → FieldAt (get_or (columns_in bs) k no_column).code (slice_index_or (row_of r) k null)) (h c refl) (fields_fit (columns_in r.columns.now) r.bytes.now))
 
 pub formed : (t : Tape) → Formed (means t)
 formed t = record {
-  few = t.few;
+  few = omega (arith, t.few, t.wide);
   columns_fit = columns_fit t.events.columns.now;
   coming_fit = events_fit_in t _ (events_fit (columns_of t) t.events.count t.events.bytes.now);
   current_fit = current_fits t t.current t.columned;

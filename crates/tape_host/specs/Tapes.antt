@@ -1,6 +1,6 @@
 -- What a tape means as a host: the columns of a recording, each carrying its own code only, alike at both signs, and its events.
-use Rattle.std.specs.Prelude.{◌≡◌, ℕ, min, Bool, ◌&&◌, List, [], map, length, get_or, take, Some, None, Ok, Err, Option, Result, ◌==◌, nat_lt, slice_index_or}
-use Rattle.std.specs.Option.{option_map, unwrap_or}
+use Rattle.std.specs.Prelude.{◌≡◌, ℕ, min, Bool, true, false, ◌&&◌, List, [], map, length, get_or, take, Some, None, Ok, Err, Option, Result, ◌==◌, nat_lt, slice_index_or}
+use Rattle.std.specs.Option.{unwrap_or}
 use Rattle.mysql.specs.declared.bind.Column.{Column}
 use Rattle.mysql.specs.declared.fault.Fault.{Fault}
 use Rattle.mysql.specs.declared.fault.Refusal.TheVariants.{BrokenTape}
@@ -9,9 +9,9 @@ use Rattle.host.specs.declared.records.BindRecord.{BindRecord}
 use Rattle.host.specs.Fields.{Field, null}
 use Rattle.host.specs.Meanings.{Row, Event, row, failure, Meaning, no_column}
 use Rattle.tape.specs.Format as recorded
-use Rattle.tape.specs.declared.event.Row.{Row as RowView}
 use Rattle.tape.specs.Views.{row_of}
 use Rattle.tape.specs.Recordings.{event_columns, events_left}
+use Rattle.tape_host.specs.declared.current.Current.{Current}
 use Rattle.tape_host.specs.declared.tapes.Tape.{Tape}
 
 -- a column carries its own code
@@ -29,13 +29,18 @@ event_shown (recorded.failure n) = failure n
 abbrev pub columns_of : Tape → List Column
 columns_of t = event_columns t.events
 
-abbrev pub current_of : Option RowView → Option Row
+abbrev pub current_of : Option Current → Option Row
 current_of None = None
-current_of (Some r) = Some (shown (row_of r))
+current_of (Some c) = Some (shown (row_of c.row))
 
--- the bind list, at the front of what is bound, and the places of the columns: none where there is no bind list
+-- records that are bound, or not
+abbrev pub bound_if : Bool → List BindRecord → Option (List BindRecord)
+bound_if false bs = None
+bound_if true bs = Some bs
+
+-- the bind list, a record for each column at the front of the array, and the places of the columns: none where there is no bind list
 abbrev pub bound_of : Tape → Option (List BindRecord)
-bound_of t = option_map (take (length (columns_of t))) t.records
+bound_of t = bound_if t.is_bound (take t.width t.records)
 
 abbrev pub places_of : Tape → List BindRecord
 places_of t = unwrap_or (bound_of t) []

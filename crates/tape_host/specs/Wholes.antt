@@ -1,6 +1,5 @@
--- Parts of a tape's calls: a row written whole, and codes that are asked for.
-use Rattle.std.specs.Prelude.{◌≡◌, ℕ, ◌<◌, Bool, true, false, ◌&&◌, List, [], ◌∷◌, length, get_or, ◌==◌, slice_index_or}
-use Rattle.mysql.specs.declared.bind.Column.{Column}
+-- A row that is written whole.
+use Rattle.std.specs.Prelude.{◌≡◌, ℕ, ◌<◌, Bool, List, length, get_or, slice_index_or}
 use Rattle.host.specs.declared.records.BindRecord.{BindRecord}
 use Rattle.host.specs.declared.records.Report.{Report}
 use Rattle.host.specs.Fields.{Field, null}
@@ -13,9 +12,3 @@ pub record Wrote (fs : List Field) (places : List BindRecord) (reports' : List R
   pub stands : (k : ℕ) → k < length places → Stands (slice_index_or fs k null) (get_or places k no_record).start (get_or places k no_record).capacity arena'
   pub untouched : Untouched places arena arena'
   pub marked : any_truncates (shown fs) 0 places ≡ truncated
-
--- each record asks for its column's own code
-abbrev pub own_codes : List Column → List BindRecord → Bool
-own_codes cs [] = true
-own_codes [] (b ∷ bs) = false
-own_codes (c ∷ cs) (b ∷ bs) = b.code == c.code && own_codes cs bs

@@ -1,19 +1,20 @@
-// A tape is a host.
+//! A tape is a host.
 ghost use Rattle.std.specs.Prelude.{◌≡◌, false};
 ghost use Rattle.host.specs.Calls.{with_error, number_of};
 ghost use Rattle.tape_host.specs.Tapes.{means};
 ghost use Rattle.tape_host.specs.Formeds.{formed};
 
 use crate::columns::asks_own_codes;
-use crate::places::{all_end_by, are_in_order, copy_records};
+use crate::current::Current;
+use crate::places::{all_end_by, are_in_order};
 use crate::tapes::Tape;
-use crate::write::{field_at, write_field, write_row};
+use crate::write::{write_field, write_row};
 use host::{BindRecord, ClientError, Fetched, Host, PAST_COLUMN, Report};
 use mysql::Column;
 use tape::Event;
 
 impl Tape<'_> {
-    // Refuses a call, for this reason, with what a refused call answers. (A tray has the same two lines: each sets a field of its own type.)
+    /// Refuses a call, for this reason, with what a refused call answers.
     fn refuse(&mut self, why: ClientError) -> bool
         ensures refused { result ≡ false }
         ensures after { means self.new ≡ with_error (number_of why) (means self.old) }
@@ -29,7 +30,7 @@ impl Host for Tape<'_> {
     ghost formed = { formed };
 
     fn column_count(&self) -> usize {
-        self.events.columns().len()
+        self.width
     }
 
     fn column(&self, i: usize) -> Column {
@@ -41,17 +42,17 @@ impl Host for Tape<'_> {
     }
 
     fn can_fetch(&self, arena: usize, reports: usize) -> bool {
-        self.records.is_some() && all_end_by(arena, self.places()) && reports == self.column_count()
+        self.is_bound && all_end_by(arena, self.places()) && reports == self.width
     }
 
     fn bind(&mut self, records: &[BindRecord]) -> bool {
-        if records.len() != self.column_count() || !are_in_order(records) {
+        if records.len() != self.width || !are_in_order(records) {
             return self.refuse(ClientError::InvalidParameter);
         }
         if !asks_own_codes(self.events.columns(), records) {
             return self.refuse(ClientError::UnsupportedType);
         }
-        self.records = Some(copy_records(records));
+        self.take_records(records);
         self.error = 0;
         true
     }
@@ -76,7 +77,7 @@ impl Host for Tape<'_> {
             Event::Row(row) => {
                 let (truncated, rest) = write_row(row, self.places(), arena, reports);
                 self.events.pass_row(row, rest);
-                self.current = Some(row);
+                self.current = Some(Current::new(row));
                 self.error = 0;
                 if truncated {
                     Fetched::Truncated
@@ -94,14 +95,15 @@ impl Host for Tape<'_> {
         part: &mut [u8],
         report: &mut Report,
     ) -> bool {
-        let Some(row) = self.current else {
+        let Some(current) = self.current else {
             return self.refuse(ClientError::NoData);
         };
         if column >= self.places().len() {
             return self.refuse(ClientError::InvalidParameter);
         }
+        let (field, current) = current.field_at(column, self.places());
+        self.current = Some(current);
         self.error = 0;
-        let field = field_at(row, column);
         *report = write_field(field, offset, part);
         true
     }
@@ -109,7 +111,7 @@ impl Host for Tape<'_> {
     fn free(&mut self) {
         self.events.stop();
         self.current = None;
-        self.records = None;
+        self.is_bound = false;
         self.error = 0;
     }
 }

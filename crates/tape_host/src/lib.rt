@@ -1,7 +1,8 @@
-// Recorded results as a host.
+//! Recorded results as a host.
 #![tactic(auto)]
 
 mod columns;
+mod current;
 mod hosted;
 mod open;
 mod places;

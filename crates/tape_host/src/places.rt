@@ -1,17 +1,17 @@
-// Places in the arena. Where they end is judged as a whole number: a start and a capacity may together pass the machine's word.
-ghost use Rattle.std.specs.Prelude.{◌≡◌, ◌≤◌, true, length, take};
+//! Places in the arena.
+ghost use Rattle.std.specs.Prelude.{◌≡◌, true};
 ghost use Rattle.host.specs.Calls.{end, in_order, all_end_by};
 
-use host::{BindRecord, MOST_COLUMNS};
+use host::BindRecord;
 
-// Where a place ends: a sum of 128 bits, which no start and capacity can pass.
+/// Where a place ends, which may be past the machine's word.
 fn end_of(place: BindRecord) -> u128
     ensures { result ≡ end place }
 {
     place.start as u128 + place.capacity as u128
 }
 
-// Whether no place begins before the one before it ends.
+/// Whether no place begins before the one before it ends.
 pub(crate) fn are_in_order(records: &[BindRecord]) -> bool
     ensures { result ≡ in_order 0 records.now }
 {
@@ -27,14 +27,4 @@ pub(crate) fn all_end_by(arena: usize, records: &[BindRecord]) -> bool
         Some(last) => end_of(*last) <= arena as u128,
         None => true,
     }
-}
-
-// Records at the front of an array.
-pub(crate) fn copy_records(records: &[BindRecord]) -> [BindRecord; MOST_COLUMNS]
-    requires { length records.now ≤ 64 }
-    ensures { take (length records.now) result ≡ records.now }
-{
-    let mut copy = [BindRecord::default(); MOST_COLUMNS];
-    copy[..records.len()].copy_from_slice(records);
-    copy
 }

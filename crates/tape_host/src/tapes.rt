@@ -1,25 +1,34 @@
-// A tape: a host of a recorded result.
-ghost use Rattle.std.specs.Prelude.{◌≡◌, ◌≤◌, true, [], length, take};
-ghost use Rattle.std.specs.Option.{option_map, unwrap_or, ForSome};
+//! A tape: a host of a recorded result.
+ghost use Rattle.std.specs.Prelude.{◌≡◌, ◌≤◌, true, length, take};
+ghost use Rattle.std.specs.Option.{ForSome};
 ghost use Rattle.host.specs.Calls.{in_order};
 ghost use Rattle.tape.specs.Recordings.{event_columns, Stand};
+ghost use Rattle.tape_host.specs.Codes.{own_codes};
 
+use crate::current::Current;
 use host::{BindRecord, MOST_COLUMNS};
-use tape::{Events, Row};
+use tape::Events;
 
+/// A recorded result, of which events are taken off and columns are bound (docs/host.md).
 #[derive(Clone, Copy)]
 pub struct Tape<'a> {
-    // the events to come, with the columns of all
+    // the events that are to come, each with the columns
     pub(crate) events: Events<'a>,
-    pub(crate) current: Option<Row<'a>>,
-    // the bind list, if there is one, at the front of an array: a tape is Copy, and an ArrayVec is not
-    pub(crate) records: Option<[BindRecord; MOST_COLUMNS]>,
+    // how many columns there are
+    pub(crate) width: usize,
+    pub(crate) current: Option<Current<'a>>,
+    // whether there is a bind list, and its records, at the front of an array
+    pub(crate) is_bound: bool,
+    pub(crate) records: [BindRecord; MOST_COLUMNS],
     pub(crate) error: u16,
-    ghost few: { length (event_columns events) ≤ 64 },
-    // all of them stand
+    ghost few: { width ≤ 64 },
+    ghost wide: { length (event_columns events) ≡ width },
+    // all events stand
     ghost stand: { Stand events },
     // the current row has the same columns
-    ghost columned: { ForSome current (λ r. r.columns.now ≡ events.columns.now) },
+    ghost columned: { ForSome current (λ c. c.row.columns.now ≡ events.columns.now) },
     // the places of the columns are in order
-    ghost ordered: { in_order 0 (unwrap_or (option_map (take (length (event_columns events))) records) []) ≡ true },
+    ghost ordered: { is_bound ≡ true → in_order 0 (take width records) ≡ true },
+    // each is bound at its own code
+    ghost coded: { is_bound ≡ true → own_codes (event_columns events) (take width records) ≡ true },
 }

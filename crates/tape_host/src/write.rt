@@ -1,15 +1,17 @@
-// Fields, written to their places and reported.
-ghost use Rattle.std.specs.Prelude.{◌≡◌, ℕ, ◌+◌, ◌^◌, ◌<◌, ◌≤◌, min, true, false, length, drop, slice_index, slice_index_or};
-ghost use Rattle.host.specs.Fields.{null};
+//! Fields, written to their places and reported.
+ghost use Rattle.std.specs.Prelude.{◌≡◌, ℕ, List, ◌+◌, ◌^◌, ◌<◌, ◌≤◌, min, true, false, length, drop, slice_index};
+ghost use Rattle.host.specs.Fields as recorded;
 ghost use Rattle.host.specs.Calls.{from_offset, PartReported, Stands, in_order, all_end_by};
 ghost use Rattle.tape.specs.Views.{field_of, row_of, columns_in, after_fields};
-ghost use Rattle.tape.specs.Recordings.{fields_left, bytes_after};
+ghost use Rattle.tape.specs.Decode.{take_field, taken};
+ghost use Rattle.tape.specs.Recordings.{RowStands};
+ghost use Rattle.tape_host.specs.Codes.{own_codes};
 ghost use Rattle.tape_host.specs.Wholes.{Wrote};
 
 use host::{BindRecord, Report};
-use tape::{Field, Fields, Row};
+use tape::{Field, Row, take_field};
 
-// Copies bytes to a part's front, as many as fit.
+/// Copies bytes to a part's front, as many as fit.
 fn copy_front(bytes: &[u8], part: &mut [u8])
     ensures { (j : ℕ) → j < min (length part.old) (length bytes.now) → slice_index part.new j ≡ slice_index bytes.now j }
 {
@@ -57,14 +59,14 @@ fn copy_ends<const N: usize>(bytes: &[u8], part: &mut [u8])
     }
 }
 
-// The bytes from an offset on; past their end there are none.
+/// The bytes from an offset on; past their end there are none.
 fn after(bytes: &[u8], offset: usize) -> &[u8]
     ensures { result.now ≡ drop offset bytes.now }
 {
     &bytes[offset.min(bytes.len())..]
 }
 
-// Writes a field, from its byte `offset` on, to the part's front, as much as fits, and reports it.
+/// Writes a field, from its byte `offset` on, to the part's front, as much as fits, and reports it.
 pub(crate) fn write_field(field: Field, offset: usize, part: &mut [u8]) -> Report
     ensures reported { PartReported (field_of field.entry) offset (length part.old) result }
     ensures stands { Stands (from_offset offset (field_of field.entry)) 0 (length part.old) part.new }
@@ -86,21 +88,12 @@ pub(crate) fn write_field(field: Field, offset: usize, part: &mut [u8]) -> Repor
     }
 }
 
-// The next field of a row; past the last one it is null.
+/// The field at the front of a row's bytes, of a column with this code, and the bytes after it; null where none stands there.
 #[inline(always)]
-fn next_field<'a>(fields: &mut Fields<'a>) -> Field<'a>
-    ensures first { field_of result ≡ slice_index_or (fields_left fields.old) 0 null }
-    ensures left { fields_left fields.new ≡ drop 1 (fields_left fields.old) }
-    ensures after { bytes_after fields.new ≡ bytes_after fields.old }
+pub(crate) fn first_field(code: u8, bytes: &[u8]) -> (Field<'_>, &[u8])
+    ensures { (f : recorded.Field) (rest : List ℕ) → take_field code bytes.now ≡ taken f rest → (field_of result.0 ≡ f) × (result.1.now ≡ rest) }
 {
-    fields.next().unwrap_or(Field::Null)
-}
-
-// A field of a row.
-pub(crate) fn field_at<'a>(row: Row<'a>, column: usize) -> Field<'a>
-    ensures { field_of result ≡ slice_index_or (row_of row.entry) column null }
-{
-    row.fields().nth(column).unwrap_or(Field::Null)
+    take_field(code, bytes).unwrap_or((Field::Null, bytes))
 }
 
 /// Writes the fields of a row to their places, with a report for each. Answers whether anything of it is truncated, which is no failure, and with the
@@ -116,18 +109,23 @@ pub(crate) fn write_row<'a>(
     requires inside { all_end_by (length arena.old) places.now ≡ true }
     requires counted { length reports.old ≡ length places.now }
     requires columned { length places.now ≡ length (columns_in row.columns.now) }
+    requires coded { own_codes (columns_in row.columns.now) places.now ≡ true }
+    requires stands { RowStands row }
     ensures wrote { Wrote (row_of row.entry) places.now reports.new arena.old arena.new result.0 }
     ensures rest { result.1.now ≡ after_fields (columns_in row.entry.columns.now) row.entry.bytes.now }
 {
-    let mut fields = row.fields();
+    let mut rest = row.bytes;
     let mut truncated = false;
-    // The reports are written by index: no invariant can name what they hold while they are lent to a zip.
     for (i, place) in places.iter().enumerate() {
         let end = place.start + place.capacity;
-        let field = next_field(&mut fields);
+        let (field, after) = first_field(place.code, rest);
+        rest = after;
         let report = write_field(field, 0, &mut arena[place.start..end]);
         truncated |= report.is_truncated;
-        reports[i] = report;
+        let told = &mut reports[i];
+        told.length = report.length;
+        told.is_null = report.is_null;
+        told.is_truncated = report.is_truncated;
     }
-    (truncated, fields.rest())
+    (truncated, rest)
 }

@@ -1,4 +1,5 @@
 use Rattle.std.proofs.Common.{◌≡◌, ℕ, drop}
+use Rattle.layout.specs.Tables.{items}
 use Rattle.layout.proofs.Carrying.{LeftSoFar}
 use Rattle.layout.proofs.moves.left.Given as goal
 
@@ -6,7 +7,7 @@ use Rattle.layout.proofs.moves.left.Given as goal
 abbrev pub invariant-loop-from : goal.invariant-loop-from
 invariant-loop-from l = record {
   i : ℕ;
-  old_left : l.from-iterator.a.rest.now ≡ drop i l.old.columns.items;
-  new_left : l.from-iterator.b.rest.now ≡ drop i l.new.columns.items;
+  old_left : l.from-iterator.a.rest.now ≡ drop i (items l.old);
+  new_left : l.from-iterator.b.rest.now ≡ drop i (items l.new);
   moved : LeftSoFar l.old l.new i l.initial.arena l.arena;
 }

@@ -13,12 +13,12 @@ use Rattle.rows.proofs.settling.fetch_missing.Goals as goal
 use Rattle.rows.proofs.settling.fetch_missing.Goals.{then-is_over+in_ok-report, else-is_over}
 
 -- where a column is over, what is missing of it lies inside the arena
-missing_fits : (g : Rattle.rows.proofs.settling.fetch_missing.Given.Over) (c : goal.After-deref g)
-    → (get_or c.deref.result.now c.loop-i.i no_record).start + (get_or c.deref-column-items.result.now c.loop-i.i no_record).length ≤ length c.loop-i.arena
+missing_fits : (g : Rattle.rows.proofs.settling.fetch_missing.Given.Over) (c : goal.After-columns g)
+    → (get_or c.columns.result.now c.loop-i.i no_record).start + (get_or c.columns-column-items.result.now c.loop-i.i no_record).length ≤ length c.loop-i.arena
 missing_fits g c =
-    let at = ap (λ (z : List ColumnRecord). get_or z c.loop-i.i no_record) c.deref-column-items.ensures.0 in
-    let to = ap (λ (z : List ColumnRecord). get_or z c.loop-i.i no_record) c.deref.ensures.0 in
-    omega (arith, c.requires.room, c.loop-i.auto.arena, missing_inside c.args.old.now c.args.new.now c.loop-i.new c.requires.grown c.loop-i.invariant.0 c.loop-i.i (omega (arith, c.loop-i-test.true, ap length c.deref-column-items.ensures.0)) _ _ at to (c.is_over.ensures.yes c.if-is_over.true))
+    let at = ap (λ (z : List ColumnRecord). get_or z c.loop-i.i no_record) c.columns-column-items.ensures in
+    let to = ap (λ (z : List ColumnRecord). get_or z c.loop-i.i no_record) c.columns.ensures in
+    omega (arith, c.requires.room, c.loop-i.auto.arena, missing_inside c.args.old.now c.args.new.now c.loop-i.new c.requires.grown c.loop-i.invariant.0 c.loop-i.i (omega (arith, c.loop-i-test.true, ap length c.columns-column-items.ensures)) _ _ at to (c.is_over.ensures.yes c.if-is_over.true))
 
 pub overflow_add-missing : goal.overflow_add-missing
 overflow_add-missing g c = let z = missing_fits g c in let o = (c.is_over.ensures.yes c.if-is_over.true).longer in search rules
@@ -46,7 +46,7 @@ returns-in_err-report g c = record {
   places = c.loop-i.invariant.0;
   came = λ row half.
       let old = c.args.old.now in let i = c.loop-i.i in
-      let l : i < count_of old = omega (arith, c.loop-i-test.true, ap length c.deref-column-items.ensures.0) in
+      let l : i < count_of old = omega (arith, c.loop-i-test.true, ap length c.columns-column-items.ensures) in
       let so_far = c.loop-i.invariant.1 row half in
       absurd (c.in_err-report.ensures row (bind_of (col old i))
       (ap (λ (x : Meaning). x.current) so_far.host ∙ half.current.current)
@@ -61,15 +61,15 @@ loop-i-preserved g c =
     let n = g.H.Host.meaning c.loop-i.host in
     let a = c.args.arena.now in let t = c.loop-i.new in let b = c.loop-i.arena in
     let sp = c.loop-i.invariant.0 in
-    let l : i < count_of old = omega (arith, c.loop-i-test.true, ap length c.deref-column-items.ensures.0) in
-    let at = ap (λ (z : List ColumnRecord). get_or z i no_record) c.deref-column-items.ensures.0 in
+    let l : i < count_of old = omega (arith, c.loop-i-test.true, ap length c.columns-column-items.ensures) in
+    let at = ap (λ (z : List ColumnRecord). get_or z i no_record) c.columns-column-items.ensures in
     elim c.if-is_over.branch [
       | then-is_over+in_ok-report w ↦
           let o = c.is_over.ensures.yes w.if-is_over.true in
           let u = w.note.new.self in
           let n' = g.H.Host.meaning w.fetch_part.new.host in
           let room : old.room ≤ length b = omega (arith, c.requires.room, c.loop-i.auto.arena) in
-          let to = ap (λ (z : List ColumnRecord). get_or z i no_record) w.deref.ensures.0 in
+          let to = ap (λ (z : List ColumnRecord). get_or z i no_record) w.columns.ensures in
           let z = missing_inside old new t gr sp i l _ _ at to o in
           let longer = o.longer in (
             subst (λ (z : ColumnTable). SamePlaces new z) (sym w.new-is) (same_places new t u sp w.note.ensures.places),
@@ -78,7 +78,7 @@ loop-i-preserved g c =
                 let got = w.in_ok-report.ensures row (bind_of (col old i))
                 (ap (λ (x : Meaning). x.current) so_far.host ∙ half.current.current)
                 (ap (λ (x : Meaning). record_of x i) so_far.host ∙ bound_at m row old half.current i l) in
-                let long : length w.fetch_part.new.part ≡ (get_or w.deref.result.now i no_record).start + (get_or c.deref-column-items.result.now i no_record).length - ((get_or w.deref.result.now i no_record).start + (get_or c.deref-column-items.result.now i no_record).capacity) = search rules in
+                let long : length w.fetch_part.new.part ≡ (get_or w.columns.result.now i no_record).start + (get_or c.columns-column-items.result.now i no_record).length - ((get_or w.columns.result.now i no_record).start + (get_or c.columns-column-items.result.now i no_record).capacity) = search rules in
                 let step = whole_fetched old new gr m row a half i l n t b so_far sp _ _ at to o room n' u c.if-is_over.arena w.in_ok-report.report w.fetch_part.new.part long w.arena-is got w.note.ensures.noted in
                 subst (λ (z : Meaning). WholeTo (i + 1) m row old new a z c.if-is_over.new c.if-is_over.arena) (sym (ap g.H.Host.meaning w.host-is))
                 (subst (λ (z : ColumnTable). WholeTo (i + 1) m row old new a n' z c.if-is_over.arena) (sym w.new-is) step),
@@ -99,7 +99,7 @@ returns g c = record {
   places = c.loop-i.invariant.0;
   came = λ row half.
       let w = c.loop-i.invariant.1 row half in
-      let done : count_of c.args.old.now ≤ c.loop-i.i = omega (arith, c.loop-i-test.false, ap length c.deref-column-items.ensures.0) in
+      let done : count_of c.args.old.now ≤ c.loop-i.i = omega (arith, c.loop-i-test.false, ap length c.columns-column-items.ensures) in
       record {
         host = w.host;
         pairs = w.pairs;

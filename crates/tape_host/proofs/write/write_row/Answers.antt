@@ -1,14 +1,10 @@
-use Rattle.std.proofs.Common.{◌≡◌, ◌+◌, ◌-◌, List, length, get_or, ap, ◌∙◌, subst, arith, rules}
-use Rattle.host.specs.Fields.{Field, null}
+use Rattle.std.proofs.Common.{◌≡◌, ◌+◌, ◌-◌, length, get_or, sym, ap, ◌∙◌, arith, rules}
+use Rattle.std.proofs.lemmas.List.{drop_all}
 use Rattle.host.specs.Calls.{no_record}
 use Rattle.host.proofs.Written.{inside_at, more_written, all_written}
-use Rattle.std.proofs.lemmas.List.{drop_all}
-use Rattle.tape.specs.Views.{field_of, columns_in}
-use Rattle.tape.proofs.Whole.{fields_few}
-use Rattle.tape.specs.Recordings.{fields_left}
+use Rattle.tape.specs.Views.{columns_in, row_of, field_of, after_fields}
 use Rattle.tape_host.specs.Tapes.{shown}
-use Rattle.tape_host.specs.Wholes.{Wrote}
-use Rattle.tape_host.proofs.Copied.{left_more, left_first}
+use Rattle.tape_host.proofs.Taking.{field_taken}
 use Rattle.tape_host.proofs.write.write_row.Goals as goal
 
 pub overflow_add-end : goal.overflow_add-end
@@ -19,33 +15,28 @@ slice_bounds-write_field-end c = let h = inside_at (length c.args.arena.now) c.a
 
 pub loop-i-preserved : goal.loop-i-preserved
 loop-i-preserved c =
-    let fs = fields_left c.fields-fields.result in
+    let row = c.args.row in
+    let cs = columns_in row.columns.now in
     let ps = c.args.places.now in
     let i = c.loop-i.i in
     let h = inside_at (length c.args.arena.now) ps c.requires.inside i (omega arith) in
     let b = get_or ps i no_record in
     let size : b.start + b.capacity - b.start ≡ b.capacity = omega arith in
-    let field : field_of c.next_field-field.result ≡ get_or fs i null =
-    c.next_field-field.ensures.first ∙ left_first fs (fields_left c.loop-i.fields) i c.loop-i.invariant.0 null in (
-      left_more fs (fields_left c.loop-i.fields) i c.loop-i.invariant.0 (fields_left c.next_field-field.new.fields) c.next_field-field.ensures.left,
-      c.next_field-field.ensures.after ∙ c.loop-i.invariant.1,
-      more_written (shown fs) ps c.loop-i.reports c.args.arena.now c.loop-i.arena c.loop-i.truncated i c.loop-i.invariant.2 c.requires.ordered (omega arith) (omega arith)
+    let k = field_taken cs row.bytes.now ps c.requires.coded c.requires.columned c.requires.stands i c.loop-i.rest.now (omega arith) c.loop-i.invariant.0 (field_of c.first_field.result.0) c.first_field.result.1.now c.first_field.ensures in (
+      k.1,
+      more_written (shown (row_of row)) ps c.loop-i.reports c.args.arena.now c.loop-i.arena c.loop-i.truncated i c.loop-i.invariant.1 c.requires.ordered (omega arith) (omega arith)
           (b.start + b.capacity - b.start) c.write_field-report.new.part c.write_field-report.result
-          (omega arith) size (search rules) (field_of c.next_field-field.result) field _ (search rules) c.write_field-report.ensures.reported c.write_field-report.ensures.stands,
+          (omega arith) size (search rules) (field_of c.first_field.result.0) k.0 _ (search rules) c.write_field-report.ensures.reported c.write_field-report.ensures.stands,
     )
 
 pub returns-clause-rest : goal.returns-clause-rest
 returns-clause-rest c =
-    let fs = fields_left c.fields-fields.result in
-    let few = fields_few (columns_in c.args.row.columns.now) c.args.row.bytes.now in
-    let none = c.loop-i.invariant.0 ∙ drop_all c.loop-i.i fs (omega (arith, few, ap length c.fields-fields.ensures.all, c.requires.columned)) in
-    c.rest.ensures none ∙ c.loop-i.invariant.1 ∙ c.fields-fields.ensures.ends
+    let cs = columns_in c.args.row.columns.now in
+    sym (ap (λ xs. after_fields xs c.loop-i.rest.now) (drop_all c.loop-i.i cs (omega arith))) ∙ c.loop-i.invariant.0.after
 
 pub returns-clause-wrote : goal.returns-clause-wrote
 returns-clause-wrote c =
     let ps = c.args.places.now in
-    let fs = fields_left c.fields-fields.result in
     let n : length ps ≡ c.loop-i.i = omega arith in
-    let P : List Field → Type 0 = λ xs. Wrote xs ps c.loop-i.reports c.args.arena.now c.loop-i.arena c.loop-i.truncated in
-    let w = all_written (shown fs) ps c.loop-i.reports c.args.arena.now c.loop-i.arena c.loop-i.truncated c.loop-i.i n c.loop-i.auto.arena c.loop-i.invariant.2 in
-    subst P c.fields-fields.ensures.all (record { reported = w.reported; stands = w.stands; untouched = w.untouched; marked = w.marked })
+    let w = all_written (shown (row_of c.args.row)) ps c.loop-i.reports c.args.arena.now c.loop-i.arena c.loop-i.truncated c.loop-i.i n c.loop-i.auto.arena c.loop-i.invariant.1 in
+    record { reported = w.reported; stands = w.stands; untouched = w.untouched; marked = w.marked }

@@ -5,10 +5,10 @@ use Rattle.layout.proofs.Wanting.{need_wide}
 use Rattle.layout.proofs.table.ColumnTable.grown.Goals as goal
 
 -- a tight layout, where the wide one is too long
-tight_or_none : (t : ColumnTable) (new : Option ColumnTable) → t.room < sum_of false t
-    → MatchOption new (t.room < need t) (λ u. (need t ≤ t.room) × (Relaid true t u)) → MatchOption new (t.room < need t) (Grown t)
-tight_or_none t None long h = h
-tight_or_none t (Some u) long h = record {
+tight_or_none : {X : Type 0} (t u : ColumnTable) (laid : Option X) → t.room < sum_of false t
+    → MatchOption laid (t.room < need t) (λ _. (need t ≤ t.room) × (Relaid true t u)) → MatchOption laid (t.room < need t) (λ _. Grown t u)
+tight_or_none t u None long h = h
+tight_or_none t u (Some x) long h = record {
   enough = h.0;
   tight = true;
   laid = h.1;
@@ -30,6 +30,6 @@ returns-in-Some c =
 
 pub returns-in-None : goal.returns-in-None
 returns-in-None c =
-    tight_or_none c.args.self.now c.relaid-in-None.result
+    tight_or_none c.args.self.now _ c.relaid-in-None.result
     (c.in-None.ensures false (λ x n w. search rules))
     (c.relaid-in-None.ensures true (λ x n w. search rules))

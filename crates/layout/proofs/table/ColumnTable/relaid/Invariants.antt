@@ -1,15 +1,15 @@
 use Rattle.std.proofs.Common.{◌≡◌, ℕ, ◌<◌, Bool, take}
 use Rattle.std.specs.Fn.{FnReturnsAt}
 use Rattle.layout.specs.Columns.{moved, wanted, sum, RuleOf}
-use Rattle.layout.specs.Tables.{count_of, col, start, end}
+use Rattle.layout.specs.Tables.{items, count_of, col, start, end}
 use Rattle.layout.proofs.table.ColumnTable.relaid.Given as goal
 
 -- the columns so far have their new places
 abbrev pub invariant-loop-column : goal.invariant-loop-column
 invariant-loop-column g l = record {
-  room : l.table.room ≡ l.self.room;
-  as_many : count_of l.table ≡ l.column-index;
+  room : l.new.room ≡ l.self.room;
+  as_many : count_of l.new ≡ l.column-index;
   laid : (tight : Bool) → RuleOf (FnReturnsAt g.F.Fn l.capacity) tight
-      → (end l.table ≡ sum tight (take l.column-index l.self.columns.items))
-      × ((k : ℕ) → k < l.column-index → col l.table k ≡ moved (col l.self k) (start l.table k) (wanted tight (col l.self k)));
+      → (end l.new ≡ sum tight (take l.column-index (items l.self)))
+      × ((k : ℕ) → k < l.column-index → col l.new k ≡ moved (col l.self k) (start l.new k) (wanted tight (col l.self k)));
 }

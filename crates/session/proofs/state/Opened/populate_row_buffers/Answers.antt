@@ -5,7 +5,7 @@ use Rattle.session.proofs.state.Opened.populate_row_buffers.Goals as goal
 
 pub returns-in-Failed : goal.returns-in-Failed
 returns-in-Failed g c =
-    let s = session_of c.args.host.now c.args.self.now c.args.reports.now in let a = c.args.arena.now in let p = c.requires in
+    let s = session_of c.args.host.now c.args.self.now c.args.reports.now c.args.spare.now in let a = c.args.arena.now in let p = c.requires in
     let m = g.H.Host.meaning s.host in
     let m' = g.H.Host.meaning c.fetch.new.self in
     let a' = c.fetch.new.arena in
@@ -20,7 +20,7 @@ returns-in-Failed g c =
 
 pub returns-in-Row : goal.returns-in-Row
 returns-in-Row g c =
-    let s = session_of c.args.host.now c.args.self.now c.args.reports.now in let a = c.args.arena.now in let p = c.requires in
+    let s = session_of c.args.host.now c.args.self.now c.args.reports.now c.args.spare.now in let a = c.args.arena.now in let p = c.requires in
     let m = g.H.Host.meaning s.host in
     let m' = g.H.Host.meaning c.fetch.new.self in
     let a' = c.fetch.new.arena in let rs' = c.fetch.new.reports in
@@ -33,8 +33,8 @@ returns-in-Row g c =
     record {
       answer = λ sound.
           let got = row_got m s sound a p came.0 m' _ rs' a' w formed (search rules) same in
-          row_answered m s sound a p came.0 m' _ rs' a' w formed (search rules) same _ o c.settle.new.host rs' m'' c.settle.new.arena refl c.settle.result (c.settle.ensures w.fields got);
+          row_answered m s sound a p came.0 m' _ rs' a' w formed (search rules) same _ o c.settle.new.host rs' c.settle.new.spare m'' c.settle.new.arena refl c.settle.result (c.settle.ensures w.fields got);
       after = λ sound.
           let got = row_got m s sound a p came.0 m' _ rs' a' w formed (search rules) same in
-          row_after m s sound a p came.0 m' _ rs' a' w formed (search rules) same _ o c.settle.new.host _ m'' c.settle.new.arena refl c.settle.result (c.settle.ensures w.fields got);
+          row_after m s sound a p came.0 m' _ rs' a' w formed (search rules) same _ o c.settle.new.host _ c.settle.new.spare m'' c.settle.new.arena refl c.settle.result (c.settle.ensures w.fields got);
     }

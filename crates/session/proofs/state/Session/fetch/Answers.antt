@@ -31,11 +31,11 @@ returns g c =
     let s = c.args.self.now in let a = c.args.arena.now in let a' = c.populate_row_buffers.new.arena in
     let o = c.in_ok-opened.opened.now in
     let is : s.opened ≡ Some o = sym c.as_mut.ensures.value ∙ ap option_copied_mut c.in_ok-opened.ensures.ok_part in
-    let s' = session_of c.populate_row_buffers.new.host c.populate_row_buffers.new.self c.populate_row_buffers.new.reports in
+    let s' = session_of c.populate_row_buffers.new.host c.populate_row_buffers.new.self c.populate_row_buffers.new.reports c.populate_row_buffers.new.spare in
     let m = g.H.Host.meaning s.host in let m' = g.H.Host.meaning s'.host in
     let x = c.populate_row_buffers.result in
     let p = passed s a tt c.in_ok-check.field-0 (sym (checked s o is a (Ok tt)) ∙ sym c.check.ensures ∙ c.in_ok-check.was) in
-    let first : IsSound g.H.Host.meaning s → IsSound g.H.Host.meaning (session_of s.host o s.reports) = subst (IsSound g.H.Host.meaning) (sym (parts s o is)) in
+    let first : IsSound g.H.Host.meaning s → IsSound g.H.Host.meaning (session_of s.host o s.reports s.spare) = subst (IsSound g.H.Host.meaning) (sym (parts s o is)) in
     let w : IsSound g.H.Host.meaning s → Fetches g.H.Host.meaning x s s' a a' =
     λ sound. subst (λ (z : Session _). Fetches g.H.Host.meaning x z s' a a') (parts s o is) (c.populate_row_buffers.ensures.after (first sound)) in
     record {

@@ -1,7 +1,7 @@
 use Rattle.std.proofs.Common.{◌-◌, refl, rules, arith}
 use Rattle.tape.specs.Views.{columns_in, after_fields, events_in}
 use Rattle.tape.proofs.Walked.{tail, first_and_tail, event_tag}
-use Rattle.tape.proofs.Stands.{failure_next, row_step}
+use Rattle.tape.proofs.Stands.{failure_next, fields_stand, row_step}
 use Rattle.tape.proofs.recording.Events.peek.Goals as goal
 
 pub returns-else-number-eq-NO_FAILURE : goal.returns-else-number-eq-NO_FAILURE
@@ -22,4 +22,5 @@ returns-in-0 c =
       columned = refl;
       first = first;
       next = λ stand. (events_in cs (s.count - 1) (after_fields cs bytes), row_step cs s.count (s.count - 1) s.bytes.now bytes (after_fields cs bytes) (omega arith) stand first refl refl);
+      stands = λ stand. fields_stand cs s.count s.bytes.now bytes (omega arith) stand first;
     }

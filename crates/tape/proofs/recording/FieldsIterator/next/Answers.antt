@@ -1,10 +1,9 @@
-use Rattle.std.proofs.Common.{sym, ap, ◌∙◌, rules}
+use Rattle.std.proofs.Common.{ap, ◌∙◌, rules}
 use Rattle.std.proofs.iter.Next.{firm}
-use Rattle.tape.specs.Views.{columns_in, fields_in, after_fields, field_of}
+use Rattle.tape.specs.Views.{columns_in, fields_in, field_of}
 use Rattle.tape.proofs.Steps.{shorter}
 use Rattle.tape.proofs.Walked.{columns_first}
 use Rattle.tape.proofs.Whole.{fields_first}
-use Rattle.tape.proofs.Stands.{after_first}
 use Rattle.tape.proofs.recording.FieldsIterator.next.Goals as goal
 
 pub returns : goal.returns
@@ -16,5 +15,4 @@ returns c =
     let after = c.in_ok-field.bytes.now in
     let g = columns_first row.columns.now k others c.in_ok-column.ensures in
     let h = ap (λ cs. fields_in cs row.bytes.now) g.0 ∙ fields_first k (columns_in others) row.bytes.now f after c.in_ok-field.ensures in
-    let b = sym (ap (λ cs. after_fields cs row.bytes.now) g.0 ∙ after_first k (columns_in others) row.bytes.now f after c.in_ok-field.ensures) in
-    record { steps = record { gives = h; ends = b }; goes = firm ((tt, tt, shorter (fields_in (columns_in others) after) f h)) (λ h. search rules) }
+    record { steps = h; goes = firm ((tt, tt, shorter (fields_in (columns_in others) after) f h)) (λ h. search rules) }
