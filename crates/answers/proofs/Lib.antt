@@ -1,2 +1,3 @@
 pub mod Snocs
 pub mod Summed
+pub mod Puts

@@ -1,4 +1,4 @@
-// What this port answers to a question, in the words in which answers are recorded.
+//! What this port answers to a question, in the words in which answers are recorded.
 #![tactic(auto)]
 
 mod port;
@@ -6,5 +6,6 @@ mod singles;
 mod tapes;
 mod text;
 mod trays;
+mod words;
 
 pub use port::Port;

@@ -1,5 +1,6 @@
 pub mod Lines
 pub mod Kinds
 pub mod Told
+pub mod Lists
 pub mod Loads
 pub mod Steps

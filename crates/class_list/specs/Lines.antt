@@ -9,7 +9,7 @@ use Rattle.host.specs.Meanings.{Row, Event}
 use Rattle.host.specs.Meanings as event
 use Rattle.rows.specs.declared.answers.Fetch.{Fetch}
 use Rattle.rows.specs.Dues as dues
-use Rattle.rows.specs.Dues.{Shown}
+use Rattle.rows.specs.Dues.{TypedBytes}
 
 -- what is read of a row: the class and the diameter as numbers of 32 bits, and the outlet's bytes, none where it is null; or what a reading is refused with
 pub record ReadRow : Type 0 where
@@ -34,7 +34,7 @@ abbrev pub diameter_column : ℕ
 diameter_column = 2
 
 -- the bytes of what is shown, whatever their type
-abbrev pub bytes_shown : Result (Option Shown) Fault → Result (Option (List ℕ)) Fault
+abbrev pub bytes_shown : Result (Option TypedBytes) Fault → Result (Option (List ℕ)) Fault
 bytes_shown (Ok None) = Ok None
 bytes_shown (Ok (Some v)) = Ok (Some v.bytes)
 bytes_shown (Err f) = Err f

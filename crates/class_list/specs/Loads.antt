@@ -1,33 +1,30 @@
 -- What loading a class list comes to.
-use Rattle.std.specs.Prelude.{◌≡◌, ℕ, Bool, true, false, nat_lt, List, map, length, Ok, Err, vec_items, MatchResult, Option, Result, Vec}
-use Rattle.std.specs.declared.alloc.Global.{Global}
-use Rattle.mysql.specs.declared.backend.MysqlType.{MysqlType}
-use Rattle.mysql.specs.declared.bind.Column.{Column}
-use Rattle.mysql.specs.declared.fault.Fault.{Fault}
-use Rattle.host.specs.Meanings.{Event, Meaning}
-use Rattle.rows.specs.Dues as dues
+use Rattle.std.specs.Prelude.{◌≡◌, Bool, true, false, List, [], ◌∷◌, ◌++◌, map, vec_items, Ok, Err, Result}
 use Rattle.class_list.specs.declared.lines.Line.{Line as HeldLine}
+use Rattle.class_list.specs.declared.loading.Collector.{Collector}
 use Rattle.class_list.specs.declared.loading.LoadError.{LoadError}
-use Rattle.class_list.specs.declared.loading.LoadError.TheVariants.{FewColumns, NotOpened, OutOfMemory}
-use Rattle.class_list.specs.Lines.{lines_of}
+use Rattle.class_list.specs.declared.loading.LoadError.TheVariants as error
+use Rattle.class_list.specs.declared.telling.NotListed.{NotListed}
+use Rattle.class_list.specs.Lines.{Line}
 use Rattle.class_list.specs.Told.{told}
 
--- Of a result that was opened with these columns the lines are those of the events that were to come, unless memory ran out.
-abbrev pub ListsTo : Result (List Column) Fault → (arena : ℕ) → List Event → Result (Vec HeldLine Global) LoadError → Type 0
-ListsTo (Ok pairs) arena coming r = MatchResult r (λ lines. map told (vec_items lines) ≡ lines_of pairs arena coming) (λ e. e ≡ OutOfMemory)
-ListsTo (Err f) arena coming r = r ≡ Err (NotOpened f)
+-- the lines that are held are those before a line for which there was no memory
+pub record CutShort (held : List HeldLine) (all : List Line) : Type 0 where
+  pub next : Line
+  pub later : List Line
+  pub there : all ≡ map told held ++ next ∷ later
 
--- Fewer than three columns are no class list, and are not opened. Any other result is opened as a new session opens it.
-abbrev pub LoadsIf : (few : Bool) → Meaning → (arena : ℕ) → List (Option MysqlType) → Result (Vec HeldLine Global) LoadError → Type 0
-LoadsIf true m arena wanted r = r ≡ Err (FewColumns (length m.columns))
-LoadsIf false m arena wanted r = ListsTo (dues.opening false arena m.carries wanted m.columns) arena m.coming r
+-- all lines are held; or where memory ran out the first of them; or none where there is no class list
+abbrev pub LoadsAs : Result (List Line) NotListed → List HeldLine → Result (Unit {0}) LoadError → Type 0
+LoadsAs (Ok all) held (Ok x) = map told held ≡ all
+LoadsAs (Ok all) held (Err error.OutOfMemory) = CutShort held all
+LoadsAs (Ok all) held (Err (error.NotListed e)) = ⊥
+LoadsAs (Err e) held r = (held ≡ []) × (r ≡ Err (error.NotListed e))
 
-abbrev pub LoadsTo : Meaning → (arena : ℕ) → List (Option MysqlType) → Result (Vec HeldLine Global) LoadError → Type 0
-LoadsTo m arena wanted r = LoadsIf (nat_lt (length m.columns) 3) m arena wanted r
+-- what a collector holds of the lines that it was told
+abbrev pub HoldsIf : (full : Bool) → List HeldLine → List Line → Type 0
+HoldsIf false held all = map told held ≡ all
+HoldsIf true held all = CutShort held all
 
--- The arena is as it was where nothing was opened. Free: its bytes after an opening.
-abbrev pub LeavesArena : Result (Vec HeldLine Global) LoadError → (a a' : List ℕ) → Type 0
-LeavesArena (Ok lines) a a' = Unit {0}
-LeavesArena (Err (FewColumns n)) a a' = a' ≡ a
-LeavesArena (Err (NotOpened f)) a a' = a' ≡ a
-LeavesArena (Err OutOfMemory) a a' = Unit {0}
+abbrev pub Holds : Collector → List Line → Type 0
+Holds c all = HoldsIf c.is_full (vec_items c.lines) all

@@ -1,10 +1,10 @@
-// How many lines of each kind there are.
+//! How many lines of each kind there are.
 ghost use Rattle.std.specs.Prelude.{◌≡◌, count_by};
 ghost use Rattle.class_list.specs.Kinds.{is_row, is_partial, is_refused, is_failed};
 
 use crate::lines::Line;
 
-// Rows that were shown, and how many of them lack a value that could not be read; rows that were refused; and failures.
+/// Rows that were shown, and how many of them lack a value that could not be read; rows that were refused; and failures.
 #[derive(Clone, Copy)]
 pub struct Counts {
     pub rows: usize,

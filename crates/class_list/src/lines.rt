@@ -1,7 +1,7 @@
-// What becomes of each event of a class list.
+//! What becomes of each event of a class list.
 use mysql::Fault;
 
-// The columns of a class list, and how many there have to be.
+/// The columns of a class list, and how many there have to be.
 pub(crate) const CLASS: usize = 0;
 
 pub(crate) const OUTLET: usize = 1;
@@ -10,8 +10,8 @@ pub(crate) const DIAMETER: usize = 2;
 
 pub(crate) const COLUMNS: usize = 3;
 
-// What a row that was shown has, each with the reading's own refusal: class and diameter as whole numbers, the outlet as a copy of its bytes; none
-// is a null.
+/// What a row that was shown has, each with the reading's own refusal: class and diameter as whole numbers, the outlet as a copy of its bytes; none
+/// is a null.
 #[derive(Drop)]
 pub struct ClassRow {
     pub class: Result<i32, Fault>,
@@ -19,13 +19,13 @@ pub struct ClassRow {
     pub diameter: Result<i32, Fault>,
 }
 
-// An event, as a fetch found it.
+/// An event, as a fetch found it.
 #[derive(Drop)]
 pub enum Line {
-    // A row that was shown, and read.
+    /// A row that was shown, and read.
     Row(ClassRow),
-    // A row that was refused, and passed over.
+    /// A row that was refused, and passed over.
     RowRefused(Fault),
-    // A failure of the host.
+    /// A failure of the host.
     Failed(Fault),
 }

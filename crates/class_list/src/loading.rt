@@ -1,54 +1,35 @@
-// Loading a class list.
-ghost use Rattle.std.specs.Prelude.{◌≡◌, length, IfOk};
+//! Loading a class list into memory.
+ghost use Rattle.std.specs.Prelude.{◌≡◌, List, [], ◌∷◌, ◌++◌, length, IfOk, vec_items};
 ghost use Rattle.host.specs.Calls.{freed};
-ghost use Rattle.class_list.specs.declared.loading.LoadError.TheVariants.{OutOfMemory};
-ghost use Rattle.class_list.specs.Told.{told_outlet, told_row, told};
-ghost use Rattle.going.specs.Going.{Kept, Ready};
-ghost use Rattle.class_list.specs.Loads.{LoadsTo, LeavesArena};
-ghost use Rattle.class_list.specs.Steps.{refusal_line, outlet_due, row_due, EndsWith};
+ghost use Rattle.class_list.specs.Lists.{listed, LeavesArena};
+ghost use Rattle.class_list.specs.Lines.{Line as ToldLine};
+ghost use Rattle.class_list.specs.Loads.{LoadsAs, Holds};
+ghost use Rattle.class_list.specs.Told.{told_row, told_outlet, told, seen_row, seen_outlet};
 
-use crate::lines::{CLASS, COLUMNS, ClassRow, DIAMETER, Line, OUTLET};
-use going::fetch_next;
+use crate::lines::{ClassRow, Line};
+use crate::listener::{Listener, SeenRow};
+use crate::telling::{Listed, NotListed, tell_lines};
 use host::Host;
 use mysql::{Fault, MysqlType};
-use rows::Fetch;
-use session::Session;
-use std::alloc::{AllocError, AllocFailed, Global};
+use std::alloc::{AllocError, Global};
 
-// Why there is no class list.
+/// Why a class list was not loaded whole.
 #[derive(Clone, Copy)]
 pub enum LoadError {
-    // The result has only so many columns.
-    FewColumns(usize),
-    // The opening was refused.
-    NotOpened(Fault),
-    // There was no memory for the lines.
+    /// There is none.
+    NotListed(NotListed),
+    /// There was no memory for a line.
     OutOfMemory,
 }
 
-impl From<AllocError> for LoadError {
-    ghost from_gives = { λ _ e. e ≡ OutOfMemory };
-
-    fn from(_e: AllocError) -> LoadError {
-        LoadError::OutOfMemory
-    }
-}
-
-impl<T: Drop> From<AllocFailed<T>> for LoadError {
-    ghost from_gives = { λ _ e. e ≡ OutOfMemory };
-
-    fn from(_e: AllocFailed<T>) -> LoadError {
-        LoadError::OutOfMemory
-    }
-}
-
-// A host whose result was loaded, and the lines.
+/// A host whose result was loaded, the lines, and whether these are all: where memory ran out they are those before the line for which there was none.
 pub struct Loaded<H> {
     pub host: H,
-    pub lines: Result<Vec<Line>, LoadError>,
+    pub lines: Vec<Line>,
+    pub outcome: Result<(), LoadError>,
 }
 
-// Opens a host's result with these wanted types, over an arena, and fetches to the end; the host is handed back freed.
+/// Opens a host's result with these wanted types, over an arena, and fetches to the end; the host is handed back freed.
 pub fn load<H: Host>(
     heap: Global,
     host: H,
@@ -56,89 +37,88 @@ pub fn load<H: Host>(
     wanted: &[Option<MysqlType>],
 ) -> Loaded<H>
     ensures host { H.Host.meaning result.host ≡ freed (H.Host.meaning host) }
-    ensures lines { LoadsTo (H.Host.meaning host) (length arena.old) wanted.now result.lines }
-    ensures arena { LeavesArena result.lines arena.old arena.new }
+    ensures lines { LoadsAs (listed (H.Host.meaning host) (length arena.old) wanted.now) (vec_items result.lines) result.outcome }
+    ensures arena { LeavesArena (H.Host.meaning host) wanted.now arena.old arena.new }
 {
-    let columns = host.column_count();
-    let mut session = Session::new(host);
-    if columns < COLUMNS {
-        return Loaded {
-            host: session.close(None),
-            lines: Err(LoadError::FewColumns(columns)),
+    let mut collector = Collector {
+        heap,
+        lines: Vec::new(heap),
+        is_full: false,
+    };
+    let Listed { host, outcome } = tell_lines(host, arena, wanted, &mut collector);
+    let Collector { lines, is_full, .. } = collector;
+    let outcome = match outcome {
+        Err(error) => Err(LoadError::NotListed(error)),
+        Ok(()) if is_full => Err(LoadError::OutOfMemory),
+        Ok(()) => Ok(()),
+    };
+    Loaded {
+        host,
+        lines,
+        outcome,
+    }
+}
+
+/// Keeps the lines that it is told, until there is no memory for one.
+#[derive(Drop)]
+struct Collector {
+    heap: Global,
+    lines: Vec<Line>,
+    is_full: bool,
+}
+
+impl Collector {
+    /// One line more, where there is memory for it, and was for those before.
+    fn add(&mut self, line: Result<Line, AllocError>)
+        ensures { (before : List ToldLine) (next : ToldLine) → IfOk line (λ kept. told kept ≡ next) → Holds self.old before → Holds self.new (before ++ next ∷ []) }
+    {
+        if self.is_full {
+            return;
+        }
+        self.is_full = match line {
+            Ok(line) => self.lines.push(line).is_err(),
+            Err(_) => true,
         };
     }
-    match session.open(arena, wanted) {
-        Ok(slip) => {
-            let lines = all_lines(heap, &mut session, arena);
-            Loaded {
-                host: session.close(Some(slip)),
-                lines,
-            }
-        }
-        Err(fault) => Loaded {
-            host: session.close(None),
-            lines: Err(LoadError::NotOpened(fault)),
-        },
+}
+
+impl Listener for Collector {
+    ghost heard = { Holds };
+
+    fn row(&mut self, seen: SeenRow) {
+        let row = keep_row(self.heap, seen);
+        self.add(row.map(Line::Row));
+    }
+
+    fn row_refused(&mut self, fault: Fault) {
+        self.add(Ok(Line::RowRefused(fault)));
+    }
+
+    fn failed(&mut self, fault: Fault) {
+        self.add(Ok(Line::Failed(fault)));
     }
 }
 
-// Fetches to the end.
-fn all_lines<H: Host>(
-    heap: Global,
-    session: &mut Session<H>,
-    arena: &mut [u8],
-) -> Result<Vec<Line>, LoadError>
-    requires { Ready H.Host.meaning session.old arena.old }
-    ensures host { Kept (H.Host.meaning session.old.host) (H.Host.meaning session.new.host) }
-    ensures lines { EndsWith H.Host.meaning session.old arena.old result }
-{
-    let mut lines = Vec::new(heap);
-    loop {
-        match fetch_next(session, arena) {
-            Ok(Fetch::Row) => lines.push(Line::Row(read_row(heap, session, arena)?))?,
-            Ok(Fetch::End) => return Ok(lines),
-            Err(fault) => lines.push(refused(fault))?,
-        }
-    }
-}
-
-// A failure of the host, or a row that was refused.
-fn refused(fault: Fault) -> Line
-    ensures { told result ≡ refusal_line fault }
-{
-    match fault.host_error() {
-        Some(_) => Line::Failed(fault),
-        None => Line::RowRefused(fault),
-    }
-}
-
-// Reads the row that is shown.
-fn read_row<H: Host>(
-    heap: Global,
-    session: &Session<H>,
-    arena: &[u8],
-) -> Result<ClassRow, AllocError>
-    requires { Ready H.Host.meaning session.now arena.now }
-    ensures { IfOk result (λ row. told_row row ≡ row_due H.Host.meaning session.now) }
+/// Copies a row.
+fn keep_row(heap: Global, seen: SeenRow) -> Result<ClassRow, AllocError>
+    ensures { IfOk result (λ kept. told_row kept ≡ seen_row seen.entry) }
 {
     Ok(ClassRow {
-        class: session.read_as(arena, CLASS),
-        outlet: read_outlet(heap, session, arena)?,
-        diameter: session.read_as(arena, DIAMETER),
+        class: seen.class,
+        outlet: keep_outlet(heap, seen.outlet)?,
+        diameter: seen.diameter,
     })
 }
 
-// Copies the outlet of the row that is shown. A match: of the three cases only the copy can fail.
-fn read_outlet<H: Host>(
+/// Copies an outlet. A match: of the three cases only the copy can fail.
+fn keep_outlet(
     heap: Global,
-    session: &Session<H>,
-    arena: &[u8],
+    outlet: Result<Option<&[u8]>, Fault>,
 ) -> Result<Result<Option<Vec<u8>>, Fault>, AllocError>
-    requires { Ready H.Host.meaning session.now arena.now }
-    ensures { IfOk result (λ outlet. told_outlet outlet ≡ outlet_due H.Host.meaning session.now) }
+    ensures { IfOk result (λ kept. told_outlet kept ≡ seen_outlet outlet.entry) }
 {
-    match session.read(arena, OUTLET) {
-        Ok(Some(shown)) => Ok(Ok(Some(shown.value().as_bytes().to_vec(heap)?))),
+    match outlet {
+        Ok(Some(bytes)) => Ok(Ok(Some(bytes.to_vec(heap)?))),
         Ok(None) => Ok(Ok(None)),
         Err(fault) => Ok(Err(fault)),
     }

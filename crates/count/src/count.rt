@@ -1,9 +1,9 @@
-// Counts in words.
+//! Counts in words.
 use std::fmt;
 use std::fmt::Display;
 use tally::Totals;
 
-// What was counted of a host, in a line, or that it could not be.
+/// What was counted of a host, in a line, or that it could not be.
 #[derive(Clone, Copy)]
 pub struct Counted<T>(pub Option<T>);
 
@@ -16,7 +16,7 @@ impl<T: Display> Display for Counted<T> {
     }
 }
 
-// The count of a tape.
+/// The count of a tape.
 #[derive(Clone, Copy)]
 pub struct OfTape(pub Totals);
 

@@ -1,9 +1,9 @@
-// The count of a tray, for the programs that print it.
+//! The count of a tray, for the programs that print it.
 #![tactic(auto)]
 
-ghost use Rattle.std.specs.Prelude.{◌≡◌, true, false, IfOk};
+ghost use Rattle.std.specs.Prelude.{◌≡◌, IfOk};
 ghost use Rattle.tally.specs.Tallies.{counted};
-ghost use Rattle.counts.specs.Trays.{new_tray, IsRows};
+ghost use Rattle.counts.specs.Trays.{new_tray, CountDue};
 
 use anyhow::Result;
 use std::fmt;
@@ -11,39 +11,57 @@ use std::fmt::Display;
 use tally::{Totals, tally};
 use tray::Tray;
 
-// The count of a tray of so many rows. There is one: the one column carries its own code.
+/// The count of a tray of so many rows. There is one: the one column carries its own code.
 pub fn tray_totals(rows: u16) -> Totals
     ensures { result ≡ counted (new_tray rows) }
 {
     tally(&mut Tray::new(rows)).unwrap()
 }
 
-// The count of a tray in words. Its rows do not fail, so that no failures are said.
+/// The count of a tray, in words too. Its rows do not fail, so that no failures are said.
 #[derive(Clone, Copy)]
-struct OfTray(Totals);
+pub struct TrayCount {
+    pub rows: u16,
+    pub totals: Totals,
+}
 
-impl Display for OfTray {
+impl Display for TrayCount {
     fn fmt<W: fmt::Write>(&self, f: &mut fmt::Formatter<W>) -> fmt::Result {
+        let tray = self.rows;
         let Totals {
             rows,
             nulls,
             bytes,
             ..
-        } = self.0;
-        write!(f, "{rows} rows, {nulls} nulls, {bytes} bytes")
+        } = self.totals;
+        write!(
+            f,
+            "tray of {tray}: {rows} rows, {nulls} nulls, {bytes} bytes"
+        )
     }
 }
 
-// Prints the count of a tray of as many rows as a word says, and says whether so many can be had.
-pub fn print_tray<R: Print + Eprint>(rt: &R, rows: &str) -> Result<bool>
-    ensures printed { IfOk result (λ printed. printed ≡ true → IsRows rows.now) }
-    ensures refused { IfOk result (λ printed. printed ≡ false → IsRows rows.now → ⊥) }
+/// The count of a tray of as many rows as a word says, if one can have so many.
+pub fn count_tray(rows: &str) -> Option<TrayCount>
+    ensures { CountDue rows.now result }
 {
     let Ok(rows) = rows.parse::<u16>() else {
-        eprintln!(rt; "{rows}: a tray has 0 to 65535 rows")?;
-        return Ok(false);
+        return None;
     };
-    let totals = OfTray(tray_totals(rows));
-    println!(rt; "tray of {rows}: {totals}")?;
-    Ok(true)
+    Some(TrayCount {
+        rows,
+        totals: tray_totals(rows),
+    })
+}
+
+/// Prints that count, or on standard error that no tray has so many rows, and answers the count. An error is one of printing.
+pub fn print_tray<R: Print + Eprint>(rt: &R, rows: &str) -> Result<Option<TrayCount>>
+    ensures { IfOk result (λ counted. CountDue rows.now counted) }
+{
+    let counted = count_tray(rows);
+    match counted {
+        Some(counted) => println!(rt; "{counted}")?,
+        None => eprintln!(rt; "{rows}: a tray has 0 to 65535 rows")?,
+    }
+    Ok(counted)
 }

@@ -1,4 +1,4 @@
-// Examples from the documents, run as tests of the libraries. They have a crate of their own, so that no library is proved twice.
+//! Examples from the documents, run as tests of the libraries. They have a crate of their own, so that no library is proved twice.
 #![tactic(auto)]
 
 #[cfg(test)]

@@ -1,10 +1,10 @@
-// Readings at their edges: examples from the rules, RFC 3629's table, and doubles by their IEEE 754 patterns.
+//! Readings at their edges: examples from the rules, RFC 3629's table, and doubles by their IEEE 754 patterns.
 use crate::refusal::refusal_of;
 use mysql::{Fault, MysqlType};
 use readings::{FromSql, MysqlTime, MysqlValue, from_nullable_sql};
 use std::test::Fail;
 
-// A text, and the i64 that it reads as, or a refusal's number.
+/// A text, and the i64 that it reads as, or a refusal's number.
 const TEXTS: [(&[u8], Result<i64, u8>); 15] = [
     (b"-12.99", Ok(-12)),
     (b"12.x", Ok(12)),
@@ -23,7 +23,7 @@ const TEXTS: [(&[u8], Result<i64, u8>); 15] = [
     (b"1.\xff", Err(19)),
 ];
 
-// A double's pattern, and the i64 that it reads as, or a refusal's number.
+/// A double's pattern, and the i64 that it reads as, or a refusal's number.
 const DOUBLES: [(u64, Result<i64, u8>); 12] = [
     (0x43E0_0000_0000_0000, Ok(9223372036854775807)), // 2^63
     (0x43DF_FFFF_FFFF_FFFF, Ok(9223372036854774784)), // the next below it
@@ -39,7 +39,7 @@ const DOUBLES: [(u64, Result<i64, u8>); 12] = [
     (0xFFF0_0000_0000_0001, Err(18)), // not a number, with the sign set
 ];
 
-// Bytes, and whether they are UTF-8: each row of the table of RFC 3629 at its ends and one past them.
+/// Bytes, and whether they are UTF-8: each row of the table of RFC 3629 at its ends and one past them.
 const SEQUENCES: [(&[u8], bool); 22] = [
     (b"\x7f", true),
     (b"\x80", false),
@@ -65,7 +65,7 @@ const SEQUENCES: [(&[u8], bool); 22] = [
     (b"\xf4\x8f\xbf\xc0", false),
 ];
 
-// A value, or a refusal's number.
+/// A value, or a refusal's number.
 fn told(answer: Result<i64, Fault>) -> Result<i64, u8> {
     answer.map_err(|fault| fault.number())
 }
@@ -129,7 +129,7 @@ fn widths_and_types(rt: HostRuntime) {
     assert_eq!(rt; nullable(&bytes, true), Err(13));
 }
 
-// The reading of a value that is null or not.
+/// The reading of a value that is null or not.
 fn nullable(bytes: &[u8], null: bool) -> Result<i64, u8> {
     let value = MysqlValue::new(bytes, MysqlType::Long);
     told(from_nullable_sql((!null).then_some(value)))
@@ -160,7 +160,7 @@ fn times(rt: HostRuntime) -> Result<(), Fail> {
     Ok(())
 }
 
-// What is refused of a time whose byte 32 is this.
+/// What is refused of a time whose byte 32 is this.
 fn with_sign(sign: u8) -> Option<u8> {
     let mut raw = [0u8; 48];
     raw[32] = sign;

@@ -1,12 +1,12 @@
-// The example of docs/tape.md, whole and damaged.
+//! The example of docs/tape.md, whole and damaged.
 use std::test::Fail;
 use tape::*;
 
-// One text column; a row with "hi", failure 7, and a row with a null.
+/// One text column; a row with "hi", failure 7, and a row with a null.
 const HI: [u8; 22] =
     *b"\x01\x00\x03\x00\xfd\x00\x00\x00\x00\x00\x01\x02\x00\x00\x00hi\x01\x07\x00\x00\x00";
 
-// A place, and a byte that makes the example no tape where it is put there.
+/// A place, and a byte that makes the example no tape where it is put there.
 const DAMAGE: [(usize, u8); 9] = [
     (0, 65), // more columns than 64
     (0, 0), // fewer columns, and so more events' bytes
@@ -41,7 +41,7 @@ fn the_example(rt: HostRuntime) -> Result<(), Fail> {
     Ok(())
 }
 
-// The first field of a row.
+/// The first field of a row.
 fn first_field(event: Option<Event>) -> Option<Field> {
     match event? {
         Event::Row(row) => row.fields().next(),
@@ -67,7 +67,7 @@ fn damaged(rt: HostRuntime) -> Result<(), Fail> {
         let Err(fault) = Recording::new(&bytes) else {
             return Err(Fail::new("a damaged tape is taken"));
         };
-        assert!(rt; fault.number() == 23 && fault.layer() as u8 == 1 && fault.column() == 255);
+        assert!(rt; fault.number() == 23 && fault.layer().number() == 1 && fault.column() == 255);
     }
     Ok(())
 }

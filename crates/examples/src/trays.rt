@@ -1,9 +1,9 @@
-// A tray through a host's calls: every refusal with its number, and places that are too short, exact and wide.
-// What a fetch answers is compared by its number, which is that of MySQL's C API.
+//! A tray through a host's calls: every refusal with its number, and places that are too short, exact and wide.
+//! What a fetch answers is compared by its number, which is that of MySQL's C API.
 use host::{BindRecord, Fetched, Host, Report, fetch_whole};
 use tray::Tray;
 
-// A record for the one column. (The tests of tapes as hosts have the same lines: no crate of tests lies below both.)
+/// A record for the one column.
 fn place(code: u8, start: usize, capacity: usize) -> BindRecord {
     BindRecord {
         code,
@@ -29,24 +29,24 @@ fn fetches(rt: HostRuntime) {
     let mut tray = Tray::new(3);
     let mut arena = [9u8; 40];
     let mut reports = [Report::default()];
-    assert!(rt; tray.fetch(&mut arena, &mut reports) as u8 == 1 && tray.error_number() == 2034);
+    assert!(rt; tray.fetch(&mut arena, &mut reports).number() == 1 && tray.error_number() == 2034);
     assert!(rt; tray.bind(&[place(253, 1, 37)]));
     assert!(rt;
-        tray.fetch(&mut arena, &mut reports) as u8 == 0,
+        tray.fetch(&mut arena, &mut reports).number() == 0,
         "37 bytes fill the place"
     );
     assert!(rt; arena[0] == 9 && arena[1] == 1 && arena[37] == 37 && arena[38] == 9);
     assert!(rt;
-        tray.fetch(&mut arena, &mut reports) as u8 == 101,
+        tray.fetch(&mut arena, &mut reports).number() == 101,
         "74 bytes do not"
     );
     assert!(rt; reports[0].length == 74 && arena[1] == 2 && arena[37] == 38 && arena[38] == 9);
     assert!(rt;
-        tray.fetch(&mut arena, &mut reports) as u8 == 0 && reports[0].is_null,
+        tray.fetch(&mut arena, &mut reports).number() == 0 && reports[0].is_null,
         "row 3 is null"
     );
     assert!(rt;
-        tray.fetch(&mut arena, &mut reports) as u8 == 100,
+        tray.fetch(&mut arena, &mut reports).number() == 100,
         "there is no row 4"
     );
 }

@@ -1,9 +1,9 @@
-// Examples from the rules, and from MySQL's reference of server errors.
+//! Examples from the rules, and from MySQL's reference of server errors.
 use crate::refusal::refusal_of;
 use mysql::*;
 use std::test::Fail;
 
-// A column of text whose flags have a bit that no flag is known for.
+/// A column of text whose flags have a bit that no flag is known for.
 const STRANGE: Column = Column {
     code: 253,
     flags: 0x0040_0000,
@@ -68,15 +68,17 @@ fn flags(rt: HostRuntime) -> Result<(), Fail> {
 #[test]
 fn faults(rt: HostRuntime) -> Result<(), Fail> {
     let lost = Fault::new(Refusal::NumericOverflow).at(2);
-    assert!(rt; lost.number() == 10 && lost.layer() as u8 == 2 && lost.column() == 2);
+    assert!(rt; lost.number() == 10 && lost.layer().number() == 2 && lost.column() == 2);
     let broken = Fault::new(Refusal::BrokenTape).at(2);
-    assert!(rt; broken.number() == 23 && broken.layer() as u8 == 1 && broken.column() == NO_COLUMN);
+    assert!(rt;
+        broken.number() == 23 && broken.layer().number() == 1 && broken.column() == NO_COLUMN
+    );
     assert!(rt; broken.host_error().is_none());
     let failed = Fault::host(1213).host_error().ok_or("no host error")?;
     assert!(rt;
-        failed.number == 1213 && failed.kind as u8 == 3,
+        failed.number == 1213 && failed.kind.number() == 3,
         "a deadlock"
     );
-    assert_eq!(rt; last_error_type(2013) as u8, 8);
+    assert_eq!(rt; last_error_type(2013).number(), 8);
     Ok(())
 }

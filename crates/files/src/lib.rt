@@ -1,37 +1,34 @@
-// What the programs that go through the files that they are named have in common.
+//! What the programs that go through the files that they are named have in common.
 #![tactic(auto)]
 
-ghost use Rattle.std.specs.Prelude.{◌≡◌, List, ℕ, true, cond, is_ok, Ok, IfOk};
-ghost use Rattle.std.specs.Fn.{FnOnceReturnsAt};
+ghost use Rattle.std.specs.Prelude.{◌≡◌, cond, is_ok, Some, None, Ok, IfOk, MatchResult};
 ghost use Rattle.std.specs.Process.{exit_status};
 
 use anyhow::Result;
 use mysql::Fault;
 use std::fmt::Display;
-use std::fs;
+use std::io;
 use std::process::ExitCode;
-use std::rt::Files;
 use words::InWords;
 
-// Reads a file, and has its bytes printed: says whether they could be, or why the file cannot be read.
-pub fn print_file<R: Files + Eprint + Alloc, F: FnOnce(&[u8]) -> Result<bool>>(
+/// The bytes that were read of a file; or none where it cannot be read, and why is said on standard error. An error is one of saying so.
+pub fn bytes_read<R: Eprint>(
     rt: &R,
     name: &str,
-    print: F,
-) -> Result<bool>
-    requires { F.IsAlwaysCallable print }
-    ensures { result ≡ Ok true → (bytes : List ℕ) × FnOnceReturnsAt F.FnOnce print bytes (Ok true) }
+    read: io::Result<Vec<u8>>,
+) -> Result<Option<Vec<u8>>>
+    ensures { MatchResult read (λ bytes. result ≡ Ok (Some bytes)) (λ error. IfOk result (λ bytes. bytes ≡ None)) }
 {
-    match fs::read(rt, name) {
-        Ok(bytes) => print(&bytes),
+    match read {
+        Ok(bytes) => Ok(Some(bytes)),
         Err(error) => {
             eprintln!(rt; "{name}: cannot be read: {error}")?;
-            Ok(false)
+            Ok(None)
         }
     }
 }
 
-// Prints what a file holds, or why it holds none, and says whether it does.
+/// Prints what a file holds, or on standard error why it holds none, and says whether it does. An error is one of printing.
 pub fn print_held<R: Print + Eprint, T: Display + Drop>(
     rt: &R,
     name: &str,
@@ -52,7 +49,7 @@ pub fn print_held<R: Print + Eprint, T: Display + Drop>(
     }
 }
 
-// How a program ends: what went wrong is said on standard error, and ends it with status 1.
+/// How a program ends: what went wrong is said on standard error, and ends it with status 1.
 pub fn end<R: Eprint>(rt: &R, program: &str, outcome: Result<()>) -> ExitCode
     ensures { exit_status result ≡ cond (is_ok outcome) 0 1 }
 {

@@ -1,4 +1,4 @@
-// What the command line asks for.
+//! What the command line asks for.
 use anyhow::{Result, anyhow, bail};
 use layout::MOST_BYTES;
 use mysql::MysqlType;
@@ -25,10 +25,10 @@ cannot be read. The exit status is 0 where every list was loaded, whether or not
 were refused, and 1 where one could not be loaded or the command line is wrong.
 ";
 
-// The types of class, outlet and diameter where no others are asked for.
+/// The types of class, outlet and diameter where no others are asked for.
 const USUAL_TYPES: &str = "Long,String,Long";
 
-// A list to load: the file, the length of the arena, and the wanted types.
+/// A list to load: the file, the length of the arena, and the wanted types.
 #[derive(Drop)]
 pub struct Job {
     pub name: String,
@@ -42,13 +42,12 @@ pub enum Asked {
     Load(Vec<Job>),
 }
 
-// Goes through the words of the command line.
+/// Goes through the words of the command line.
 pub fn read_arguments(rt: &HostRuntime) -> Result<Asked> {
     let mut jobs = Vec::new(rt.alloc());
     let mut arena = MOST_BYTES;
     let mut wanted = wanted_types(rt, USUAL_TYPES)?;
     let mut words = env::args(rt)?.skip(1);
-    // no `for`: an option takes the next word with it
     while let Some(word) = words.next() {
         match word.as_str() {
             "--help" => return Ok(Asked::Help),
@@ -95,7 +94,7 @@ fn wanted_types(rt: &HostRuntime, names: &str) -> Result<Vec<Option<MysqlType>>>
     Ok(wanted)
 }
 
-// The type of a name, or none for a dash.
+/// The type of a name, or none for a dash.
 fn wanted_type(name: &str) -> Result<Option<MysqlType>> {
     Ok(Some(match name {
         "-" => return Ok(None),

@@ -1,4 +1,4 @@
-// A line of a class list as the cells of a table.
+//! A line of a class list as the cells of a table.
 use class_list::{ClassRow, Line};
 use mysql::Fault;
 use std::alloc::{AllocError, Global};
@@ -10,11 +10,11 @@ pub struct Cells {
     pub class: String,
     pub outlet: String,
     pub diameter: String,
-    // What was refused, and why.
+    /// What was refused, and why.
     pub remarks: String,
 }
 
-// What stands for a value that could not be read, for a null, for an empty text, and where there is no row.
+/// What stands for a value that could not be read, for a null, for an empty text, and where there is no row.
 const REFUSED: &str = "refused";
 
 const NULL: &str = "(none)";
@@ -66,7 +66,7 @@ impl Cells {
     }
 }
 
-// Remarks that a value was refused, and gives what stands for it.
+/// Remarks that a value was refused, and gives what stands for it.
 fn refused(
     heap: Global,
     remarks: &mut String,
@@ -80,7 +80,7 @@ fn refused(
     String::from_str(heap, REFUSED)
 }
 
-// Bytes as text where they are printable text, else in hexadecimal.
+/// Bytes as text where they are printable text, else in hexadecimal.
 fn text(heap: Global, bytes: &[u8]) -> Result<String, AllocError> {
     if bytes.is_empty() {
         return String::from_str(heap, EMPTY);
@@ -101,7 +101,7 @@ fn is_printable(c: char) -> bool {
     c >= ' ' && !('\u{7f}'..='\u{9f}').contains(&c)
 }
 
-// Tenths of a millimetre, in millimetres.
+/// Tenths of a millimetre, in millimetres.
 #[derive(Clone, Copy)]
 struct Tenths(i32);
 

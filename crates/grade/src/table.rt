@@ -1,9 +1,9 @@
-// A table of cells, aligned.
+//! A table of cells, aligned.
 use crate::cells::Cells;
 use anyhow::Result;
 use std::fmt;
 
-// What stands above the columns.
+/// What stands above the columns.
 const NUMBER: &str = "no.";
 
 const CLASS: &str = "class";
@@ -14,7 +14,7 @@ const DIAMETER: &str = "diameter (mm)";
 
 const REMARKS: &str = "remarks";
 
-// How wide the columns are.
+/// How wide the columns are.
 #[derive(Clone, Copy)]
 struct Widths {
     number: usize,
@@ -40,12 +40,12 @@ impl Widths {
     }
 }
 
-// How many digits a number has.
+/// How many digits a number has.
 fn digits(number: usize) -> usize {
     number.checked_ilog10().map_or(1, |tens| tens as usize + 1)
 }
 
-// Prints a heading and then the rows, with their numbers from 1 on.
+/// Prints a heading and then the rows, with their numbers from 1 on.
 pub fn print_table(rt: &HostRuntime, rows: &[Cells]) -> Result<()> {
     let Widths {
         number,
@@ -65,7 +65,7 @@ pub fn print_table(rt: &HostRuntime, rows: &[Cells]) -> Result<()> {
     Ok(())
 }
 
-// Remarks, where there are any.
+/// Remarks, where there are any.
 #[derive(Clone, Copy)]
 struct Remarks<'a>(&'a str);
 

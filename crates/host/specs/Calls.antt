@@ -24,6 +24,13 @@ number_of why.InvalidParameter = invalid_parameter
 number_of why.UnsupportedType = unsupported_type
 number_of why.NoData = no_data
 
+-- the numbers of what a fetch answers, which are those of MySQL's C API
+abbrev pub fetched_number : Fetched → ℕ
+fetched_number answer.Row = 0
+fetched_number answer.Failed = 1
+fetched_number answer.NoData = 100
+fetched_number answer.Truncated = 101
+
 -- the same meaning but for the error number
 abbrev pub with_error : ℕ → Meaning → Meaning
 with_error n m = record { columns = m.columns; carries = m.carries; coming = m.coming; current = m.current; bound = m.bound; error = n }
@@ -31,12 +38,12 @@ with_error n m = record { columns = m.columns; carries = m.carries; coming = m.c
 -- binding
 
 -- where a place ends; no place begins before the one before it ends
-abbrev pub end : BindRecord → ℕ
-end b = b.start + b.capacity
+abbrev pub place_end : BindRecord → ℕ
+place_end b = b.start + b.capacity
 
 abbrev pub in_order : ℕ → List BindRecord → Bool
 in_order from [] = true
-in_order from (b ∷ bs) = nat_le from b.start && in_order (end b) bs
+in_order from (b ∷ bs) = nat_le from b.start && in_order (place_end b) bs
 
 abbrev pub carried : Meaning → ℕ → List BindRecord → Bool
 carried m k [] = true
@@ -66,22 +73,22 @@ after_bind m bs = record {
 
 abbrev pub all_end_by : ℕ → List BindRecord → Bool
 all_end_by arena [] = true
-all_end_by arena (b ∷ bs) = nat_le (end b) arena && all_end_by arena bs
+all_end_by arena (b ∷ bs) = nat_le (place_end b) arena && all_end_by arena bs
 
 -- whether bind list, arena length and report count allow a fetch
 abbrev pub allows : Meaning → ℕ → ℕ → Bool
 allows m arena reports = elim m.bound [ Some bs ↦ all_end_by arena bs && nat_eq reports (length m.columns) | None ↦ false ]
 
 -- a record and a report past the end of a list
-abbrev pub no_record : BindRecord
-no_record = record { code = 0; unsigned = false; start = 0; capacity = 0 }
+abbrev pub no_bind : BindRecord
+no_bind = record { code = 0; unsigned = false; start = 0; capacity = 0 }
 
 abbrev pub no_report : Report
 no_report = record { length = 0; is_null = false; is_truncated = false }
 
 -- a byte lies in a place
 abbrev pub InPlace : List BindRecord → ℕ → Type 0
-InPlace bs p = (k : ℕ) × (k < length bs) × ((get_or bs k no_record).start ≤ p) × (p < end (slice_index_or bs k no_record))
+InPlace bs p = (k : ℕ) × (k < length bs) × ((get_or bs k no_bind).start ≤ p) × (p < place_end (slice_index_or bs k no_bind))
 
 -- bytes outside all places are as they were
 pub record Untouched (bs : List BindRecord) (before after : List ℕ) : Type 0 where
@@ -149,8 +156,8 @@ pub record RowCame (truncated : Bool) (m m' : Meaning) (reports reports' : List 
   pub next : m.coming ≡ row fields ∷ rest
   pub after : m' ≡ record { columns = m.columns; carries = m.carries; coming = rest; current = Some fields; bound = m.bound; error = 0 }
   pub as_many_reports : length reports' ≡ length reports
-  pub reported : (k : ℕ) → k < length places → Reported (field_of fields k (slice_index_or places k no_record)) (get_or places k no_record).capacity (slice_index_or reports' k no_report)
-  pub stands : (k : ℕ) → k < length places → Stands (field_of fields k (slice_index_or places k no_record)) (get_or places k no_record).start (get_or places k no_record).capacity arena'
+  pub reported : (k : ℕ) → k < length places → Reported (field_of fields k (slice_index_or places k no_bind)) (get_or places k no_bind).capacity (slice_index_or reports' k no_report)
+  pub stands : (k : ℕ) → k < length places → Stands (field_of fields k (slice_index_or places k no_bind)) (get_or places k no_bind).start (get_or places k no_bind).capacity arena'
   pub untouched : Untouched places arena arena'
   pub marked : any_truncates fields 0 places ≡ truncated
 
@@ -165,7 +172,7 @@ Fetches answer.Failed m m' rs rs' a a' = NotAllowed m m' rs rs' a a' ⊎ Failure
 
 -- the record that a column is bound with
 abbrev pub record_of : Meaning → ℕ → Option BindRecord
-record_of m k = elim m.bound [ Some bs ↦ cond (nat_lt k (length bs)) (Some (slice_index_or bs k no_record)) None | None ↦ None ]
+record_of m k = elim m.bound [ Some bs ↦ cond (nat_lt k (length bs)) (Some (slice_index_or bs k no_bind)) None | None ↦ None ]
 
 -- the error number of a column fetch: 0 where it is granted
 abbrev pub part_error : Option Row → Option BindRecord → ℕ

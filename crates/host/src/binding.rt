@@ -1,4 +1,4 @@
-// Binding with the answer as a Result, for callers in Rust.
+//! Binding with the answer as a Result, for callers in Rust.
 ghost use Rattle.std.specs.Prelude.{◌≡◌, true, false, ◌==◌, is_ok, IfErr};
 ghost use Rattle.mysql.specs.Faults.{host_failed};
 ghost use Rattle.host.specs.Calls.{bind_error, after_bind};
@@ -7,7 +7,7 @@ use crate::Host;
 use crate::records::BindRecord;
 use mysql::Fault;
 
-// Binds the host to places; where it refuses, the fault has its error number.
+/// Binds the host to places; where it refuses, the fault has its error number.
 pub fn bind_all<H: Host>(host: &mut H, records: &[BindRecord]) -> Result<(), Fault>
     ensures granted { is_ok result ≡ (bind_error (H.Host.meaning host.old) records.now == 0) }
     ensures failed { IfErr result (λ fault. fault ≡ host_failed (bind_error (H.Host.meaning host.old) records.now)) }

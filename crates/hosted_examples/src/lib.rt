@@ -1,4 +1,4 @@
-// Examples of hosts from the documents, as tests.
+//! Examples of hosts from the documents, as tests.
 #![tactic(auto)]
 
 #[cfg(test)]

@@ -1,19 +1,19 @@
-// A tape through a host's calls: every refusal with its number, places that are too short, exact and wide, and counts over both hosts.
-// What a fetch answers is compared by its number, which is that of MySQL's C API.
+//! A tape through a host's calls: every refusal with its number, places that are too short, exact and wide, and counts over both hosts.
+//! What a fetch answers is compared by its number, which is that of MySQL's C API.
 use host::{BindRecord, Fetched, Host, Report};
 use std::test::Fail;
 use tally::{Totals, tally};
 use tape_host::Tape;
 use tray::Tray;
 
-// A short number without sign and a text; a row with a lost figure and "hello", failure 1213, and a row of nulls.
+/// A short number without sign and a text; a row with a lost figure and "hello", failure 1213, and a row of nulls.
 const TWO: &[u8] =
     b"\x02\x00\x03\x00\x02\x20\x00\x00\x00\xfd\x00\x00\x00\x00\x00\x02\x02\x00\x00\x00\xff\xff\x01\x05\x00\x00\x00hello\x01\xbd\x04\x00\x00\x00";
 
-// No columns, and one row.
+/// No columns, and one row.
 const NO_COLUMNS: &[u8] = b"\x00\x00\x01\x00\x00";
 
-// A record. (The tests of trays have the same lines: no crate of tests lies below both.)
+/// A record.
 fn place(code: u8, start: usize, capacity: usize) -> BindRecord {
     BindRecord {
         code,
@@ -44,20 +44,20 @@ fn fetches(rt: HostRuntime) -> Result<(), Fail> {
     let mut tape = Tape::new(TWO)?;
     let mut arena = [9u8; 8];
     let mut reports = [Report::default(); 2];
-    assert!(rt; tape.fetch(&mut arena, &mut reports) as u8 == 1 && tape.error_number() == 2034);
+    assert!(rt; tape.fetch(&mut arena, &mut reports).number() == 1 && tape.error_number() == 2034);
     assert!(rt; tape.bind(&[place(2, 0, 2), place(253, 2, 5)]));
     assert!(rt;
-        tape.fetch(&mut arena, &mut reports) as u8 == 101,
+        tape.fetch(&mut arena, &mut reports).number() == 101,
         "a figure was lost"
     );
     assert!(rt;
         &arena == b"\xff\xffhello\x09" && reports[0].is_truncated && !reports[1].is_truncated
     );
-    assert!(rt; tape.fetch(&mut arena, &mut reports) as u8 == 1 && tape.error_number() == 1213);
-    assert!(rt; tape.fetch(&mut arena, &mut reports) as u8 == 0 && tape.error_number() == 0);
+    assert!(rt; tape.fetch(&mut arena, &mut reports).number() == 1 && tape.error_number() == 1213);
+    assert!(rt; tape.fetch(&mut arena, &mut reports).number() == 0 && tape.error_number() == 0);
     assert!(rt; reports[0].is_null && reports[1].is_null && !reports[0].is_truncated);
     assert!(rt;
-        tape.fetch(&mut arena, &mut reports) as u8 == 100,
+        tape.fetch(&mut arena, &mut reports).number() == 100,
         "there is no event 4"
     );
     Ok(())
@@ -70,7 +70,11 @@ fn columns(rt: HostRuntime) -> Result<(), Fail> {
     let mut report = Report::default();
     assert!(rt; !tape.fetch_column(1, 0, &mut part, &mut report) && tape.error_number() == 2051);
     assert!(rt; tape.bind(&[place(2, 0, 2), place(253, 2, 3)]));
-    assert!(rt; tape.fetch(&mut [0; 5], &mut [Report::default(); 2]) as u8 == 101);
+    assert!(rt;
+        tape.fetch(&mut [0; 5], &mut [Report::default(); 2])
+            .number()
+            == 101
+    );
     assert!(rt; !tape.fetch_column(2, 0, &mut part, &mut report) && tape.error_number() == 2034);
     assert!(rt; tape.fetch_column(1, 3, &mut part, &mut report) && &part == b"lo");
     assert!(rt; !report.is_truncated && report.length == 5);
@@ -87,8 +91,8 @@ fn columns(rt: HostRuntime) -> Result<(), Fail> {
 #[test]
 fn no_columns(rt: HostRuntime) -> Result<(), Fail> {
     let mut tape = Tape::new(NO_COLUMNS)?;
-    assert!(rt; tape.bind(&[]) && tape.fetch(&mut [], &mut []) as u8 == 0);
-    assert!(rt; tape.fetch(&mut [], &mut []) as u8 == 100);
+    assert!(rt; tape.bind(&[]) && tape.fetch(&mut [], &mut []).number() == 0);
+    assert!(rt; tape.fetch(&mut [], &mut []).number() == 100);
     Ok(())
 }
 
@@ -111,7 +115,7 @@ fn counts(rt: HostRuntime) -> Result<(), Fail> {
     assert!(rt; tally(&mut tray).ok_or("no count of the tray")? == of_tray);
     assert!(rt; tally(&mut tape).ok_or("no count of the tape")? == of_tape);
     assert!(rt;
-        tape.fetch(&mut [], &mut [Report::default(); 2]) as u8 == 100,
+        tape.fetch(&mut [], &mut [Report::default(); 2]).number() == 100,
         "the count fetched all"
     );
     Ok(())

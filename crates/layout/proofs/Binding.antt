@@ -7,7 +7,7 @@ use Rattle.std.specs.List.{sum_by}
 use Rattle.mysql.specs.Types.{size_of}
 use Rattle.host.specs.declared.records.BindRecord.{BindRecord}
 use Rattle.host.specs.Calls.{in_order, all_end_by, InPlace}
-use Rattle.host.specs.Calls.{no_record as no_bind}
+use Rattle.host.specs.Calls.{no_bind}
 use Rattle.layout.specs.declared.record.ColumnRecord.{ColumnRecord}
 use Rattle.layout.specs.declared.table.ColumnTable.{ColumnTable}
 use Rattle.layout.specs.Columns.{no_record, bind_of, bytes_by, span, total, Lies, SomeRoom, Sized}

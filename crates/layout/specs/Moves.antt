@@ -19,7 +19,8 @@ pub record Moved (old : ColumnTable) (a : List ℕ) (new : ColumnTable) (b : Lis
   pub carried : Carried old (start old) (start new) a b
   pub beyond : Beyond (end new) a b
 
--- refused: the row needs more than there is, or the arena is shorter than the table says; the arena is as it was
+-- Refused: the row needs more than there is, or the arena is shorter than the table says; the arena is as it was. Free: which columns the new
+-- table has then.
 pub record NotMoved (old : ColumnTable) (a b : List ℕ) : Type 0 where
   pub why : old.room ≤ length a → old.room < need old
   pub same : b ≡ a

@@ -70,21 +70,23 @@ pub record OpeningTable (pairs : List Column) (room : ℕ) (t : ColumnTable) : T
   pub ends : end t ≡ opening_size pairs
   pub each : (k : ℕ) → k < length pairs → col t k ≡ first_record (slice_index_or pairs k no_pair) (start t k)
 
--- there is none where there are over 64 columns, or the arena is over 65,536 bytes long or shorter than the places
+-- There is none where there are over 64 columns, or the arena is over 65,536 bytes long or shorter than the places. Free: which columns the
+-- table has then.
 pub record NoOpening (pairs : List Column) (room : ℕ) : Type 0 where
   pub why : length pairs ≤ 64 → room ≤ 65536 → room < opening_size pairs
 
-abbrev pub Opens : {X : Type 0} → List Column → ℕ → Option X → ColumnTable → Type 0
-Opens pairs room None t = NoOpening pairs room
-Opens pairs room (Some x) t = OpeningTable pairs room t
+abbrev pub LaysOut : {X : Type 0} → List Column → ℕ → Option X → ColumnTable → Type 0
+LaysOut pairs room None t = NoOpening pairs room
+LaysOut pairs room (Some x) t = OpeningTable pairs room t
 
 -- reports
 
--- each column has its report noted, and nothing else changed
+-- reports are noted from the first column on, as many as there are columns for them; a column without one stays, and so does all else
 pub record Noted (old : ColumnTable) (reports : List Report) (new : ColumnTable) : Type 0 where
   pub count : count_of new ≡ count_of old
   pub room : new.room ≡ old.room
-  pub each : (k : ℕ) → k < count_of old → col new k ≡ noted (col old k) (slice_index_or reports k no_report)
+  pub each : (k : ℕ) → k < count_of old → k < length reports → col new k ≡ noted (col old k) (slice_index_or reports k no_report)
+  pub others : (k : ℕ) → length reports ≤ k → col new k ≡ col old k
 
 -- the report of column i is noted, where there is such a column, and nothing else changed
 pub record NotedAt (i : ℕ) (old : ColumnTable) (report : Report) (new : ColumnTable) : Type 0 where

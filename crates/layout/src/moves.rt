@@ -5,7 +5,7 @@ ghost use Rattle.layout.specs.Moves.{Carried, Beyond};
 
 use crate::table::ColumnTable;
 
-/// Moves `n` bytes, which stand at `from`, to `to`. Up to 128 of them are read before any is written, by two copies of a fixed size.
+/// Moves `n` bytes, which stand at `from`, to `to`. From 4 to 128 of them are read before any is written, by two copies of a fixed size.
 fn shift(arena: &mut [u8], from: usize, n: usize, to: usize)
     requires stands { from + n ≤ length arena.old }
     requires lands { to + n ≤ length arena.old }

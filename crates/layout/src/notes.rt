@@ -1,5 +1,5 @@
 //! What was reported of the columns, noted in the table, and what is asked of it.
-ghost use Rattle.std.specs.Prelude.{◌≡◌, ◌↔◌, ◌<◌, ◌≤◌, true, false, length, take, IsTrue, MatchOption};
+ghost use Rattle.std.specs.Prelude.{◌≡◌, ◌↔◌, ◌<◌, ◌≤◌, true, false, length, take, drop, IsTrue, MatchOption};
 ghost use Rattle.layout.specs.Tables.{items, count_of, col, NotedAt, Noted, SamePlaces, AllFit, AllPlain, NoneLost, LowestLost, binds, end as end_of};
 ghost use Rattle.layout.specs.Columns.{Plain};
 
@@ -48,10 +48,10 @@ impl ColumnTable {
         column.is_plain()
     }
 
-    /// Notes the report of each column that has one, and says whether each has one and is plain then.
+    /// Notes the reports from the first column on, as many as there are columns for them, and says whether each column has one and is plain then.
     #[inline(always)]
     pub fn note_all(&mut self, reports: &[Report]) -> bool
-        ensures noted { count_of self.old ≤ length reports.now → Noted self.old reports.now self.new }
+        ensures noted { Noted self.old reports.now self.new }
         ensures places { SamePlaces self.old self.new }
         ensures plain { IsTrue result ↔ ((count_of self.old ≤ length reports.now) × AllPlain self.new) }
     {
@@ -79,9 +79,10 @@ impl ColumnTable {
         !self.columns().iter().any(ColumnRecord::is_over)
     }
 
-    /// Writes what the host is to be told of the columns to the front of an array.
+    /// Writes what the host is to be told of the columns to the front of an array, and leaves the rest of it.
     pub fn write_binds(&self, records: &mut [BindRecord; MOST_COLUMNS])
-        ensures { take (count_of self.now) records.new ≡ binds self.now }
+        ensures told { take (count_of self.now) records.new ≡ binds self.now }
+        ensures rest { drop (count_of self.now) records.new ≡ drop (count_of self.now) records.old }
     {
         for (i, column) in self.columns().iter().enumerate() {
             records[i] = BindRecord::from(*column);

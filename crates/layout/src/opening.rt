@@ -2,7 +2,7 @@
 ghost use Rattle.std.specs.Prelude.{◌≡◌, ◌+◌, ◌<◌, ◌≤◌, MatchOption};
 ghost use Rattle.mysql.specs.Types.{size_of};
 ghost use Rattle.layout.specs.Columns.{bytes_by};
-ghost use Rattle.layout.specs.Tables.{Opens, Added, first_capacity, count_of, end as end_of};
+ghost use Rattle.layout.specs.Tables.{LaysOut, Added, first_capacity, count_of, end as end_of};
 
 use crate::record::ColumnRecord;
 use crate::table::ColumnTable;
@@ -29,7 +29,7 @@ impl ColumnTable {
     /// one after another. None where there are too many columns, or the arena is too long, or too short for the places; which columns it has then
     /// is left open.
     pub fn open(&mut self, columns: &[Column], room: usize) -> Option<()>
-        ensures { Opens columns.now room result self.new }
+        ensures { LaysOut columns.now room result self.new }
     {
         if columns.len() > MOST_COLUMNS || room > MOST_BYTES {
             return None;

@@ -6,7 +6,7 @@ use Rattle.mysql.specs.declared.fault.Refusal.TheVariants.{Unopened, AlreadyOpen
 use Rattle.mysql.specs.declared.fault.Layer.{Layer}
 use Rattle.mysql.specs.declared.fault.Layer.TheVariants.{Host, Session, Reading}
 use Rattle.mysql.specs.declared.result.DatabaseErrorKind.{DatabaseErrorKind}
-use Rattle.mysql.specs.declared.result.DatabaseErrorKind.TheVariants.{UniqueViolation, ForeignKeyViolation, SerializationFailure, ReadOnlyTransaction, NotNullViolation, CheckViolation, Unknown}
+use Rattle.mysql.specs.declared.result.DatabaseErrorKind.TheVariants.{UniqueViolation, ForeignKeyViolation, UnableToSendCommand, SerializationFailure, ReadOnlyTransaction, NotNullViolation, CheckViolation, ClosedConnection, Unknown, RestrictViolation, ExclusionViolation}
 use Rattle.mysql.specs.Ranges.{between, among}
 
 abbrev pub number_of : Refusal → ℕ
@@ -32,6 +32,11 @@ number_of ManyDots = 20
 number_of InvalidInteger = 21
 number_of BrokenTape = 23
 
+abbrev pub layer_number : Layer → ℕ
+layer_number Host = 1
+layer_number Session = 2
+layer_number Reading = 3
+
 -- 9 and 23 come from the host, 13 to 21 from a reading, the others from the session
 abbrev pub layer_of : Refusal → Layer
 layer_of r = cond (among (9 ∷ 23 ∷ []) (number_of r)) Host (cond (between 13 21 (number_of r)) Reading Session)
@@ -39,6 +44,20 @@ layer_of r = cond (among (9 ∷ 23 ∷ []) (number_of r)) Host (cond (between 13
 -- 7, 10 and 12 to 21 can name a column
 abbrev pub names_column : Refusal → Bool
 names_column r = among (7 ∷ 10 ∷ []) (number_of r) || between 12 21 (number_of r)
+
+-- the numbers of the kinds of failure, which are the original's
+abbrev pub kind_number : DatabaseErrorKind → ℕ
+kind_number UniqueViolation = 0
+kind_number ForeignKeyViolation = 1
+kind_number UnableToSendCommand = 2
+kind_number SerializationFailure = 3
+kind_number ReadOnlyTransaction = 4
+kind_number NotNullViolation = 5
+kind_number CheckViolation = 6
+kind_number ClosedConnection = 7
+kind_number Unknown = 8
+kind_number RestrictViolation = 9
+kind_number ExclusionViolation = 10
 
 -- the kind of failure, by MySQL's error number
 abbrev pub kind_of : ℕ → DatabaseErrorKind

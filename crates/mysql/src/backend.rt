@@ -1,6 +1,8 @@
-// The types that a value of a MySQL result can have.
+//! The types that a value of a MySQL result can have.
+ghost use Rattle.std.specs.Prelude.{◌≡◌};
+ghost use Rattle.mysql.specs.Kept.{row_of};
 
-// The numbers are the rows of the table of kept pairs (`kept::KEPT`).
+/// The numbers are the rows of the table of kept pairs (`kept::KEPT`).
 #[derive(Clone, Copy, PartialEq, Eq, Debug)]
 pub enum MysqlType {
     Tiny = 0,
@@ -23,4 +25,13 @@ pub enum MysqlType {
     Bit = 17,
     Set = 18,
     Enum = 19,
+}
+
+impl MysqlType {
+    /// Its number.
+    pub fn number(self) -> u8
+        ensures { result ≡ row_of self }
+    {
+        self as u8
+    }
 }

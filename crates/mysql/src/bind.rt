@@ -1,5 +1,5 @@
-// How a column of a result is bound: the pair of code and flags that a type asks for, the type that such a pair stands for,
-// how many bytes a code takes, and which pair a column is bound with.
+//! How a column of a result is bound: the pair of code and flags that a type asks for, the type that such a pair stands for,
+//! how many bytes a code takes, and which pair a column is bound with.
 ghost use Rattle.std.specs.Prelude.{◌≡◌, Ok};
 ghost use Rattle.mysql.specs.Types.{pair_of, type_of, size_of, known, has, read_back};
 ghost use Rattle.mysql.specs.Taken.{flags_of, taken_pair};
@@ -9,7 +9,7 @@ use crate::fault::{Fault, Refusal};
 use crate::ffi::*;
 use crate::kept::is_kept;
 
-// A column of a result as the host describes it.
+/// A column of a result as the host describes it.
 #[derive(Clone, Copy, PartialEq, Eq, Debug, Default)]
 pub struct Column {
     pub code: u8,
@@ -17,7 +17,7 @@ pub struct Column {
 }
 
 impl Column {
-    // Whether its numbers have no sign.
+    /// Whether its numbers have no sign.
     pub fn is_unsigned(self) -> bool
         ensures { result ≡ has self.flags 32 }
     {
@@ -25,7 +25,7 @@ impl Column {
     }
 }
 
-// The code and flags that stand for a type. (A tuple, and no `Column`: the original converts to and from this one.)
+/// The code and flags that stand for a type.
 impl From<MysqlType> for (u8, u32) {
     ghost from_gives = { λ tpe pair. pair ≡ pair_of tpe };
 
@@ -55,7 +55,7 @@ impl From<MysqlType> for (u8, u32) {
     }
 }
 
-// The type that a code and flags stand for.
+/// The type that a code and flags stand for.
 impl TryFrom<(u8, u32)> for MysqlType {
     type Error = Fault;
 
@@ -91,7 +91,7 @@ impl TryFrom<(u8, u32)> for MysqlType {
     }
 }
 
-// The type that a column has when it is read, after it was bound as this type asks.
+/// The type that a column has when it is read, after it was bound as this type asks.
 pub fn round_trip(tpe: MysqlType) -> Result<MysqlType, Fault>
     ensures { result ≡ Ok (read_back tpe) }
 {
@@ -120,7 +120,7 @@ pub fn known_buffer_size_for_ffi_type(code: u8) -> Option<usize>
     if size == 0 { None } else { Some(size as usize) }
 }
 
-// A column's flags, unless they have a bit that no flag is known for.
+/// A column's flags, unless they have a bit that no flag is known for.
 pub fn known_flags(flags: u32) -> Result<u32, Fault>
     ensures { result ≡ flags_of flags }
 {
@@ -131,7 +131,7 @@ pub fn known_flags(flags: u32) -> Result<u32, Fault>
     }
 }
 
-// The code and flags that a column is bound with, where this type, or none in particular, is wanted of it.
+/// The code and flags that a column is bound with, where this type, or none in particular, is wanted of it.
 pub fn taken(wanted: Option<MysqlType>, column: Column) -> Result<(u8, u32), Fault>
     ensures { result ≡ taken_pair wanted column.code column.flags }
 {

@@ -1,5 +1,5 @@
-// The codes of field types and the flags of columns that this crate looks at, under the names of MySQL's C headers.
-// They are the C interface's numbers, and no enum: a library may report a code that has no name here.
+//! The codes of field types and the flags of columns that this crate looks at, under the names of MySQL's C headers.
+//! A library may report a code that has no name here.
 
 pub const MYSQL_TYPE_DECIMAL: u8 = 0;
 
@@ -63,17 +63,17 @@ pub const MYSQL_TYPE_STRING: u8 = 254;
 
 pub const MYSQL_TYPE_GEOMETRY: u8 = 255;
 
-// How many bytes a MYSQL_TIME takes.
+/// How many bytes a MYSQL_TIME takes.
 pub const MYSQL_TIME_SIZE: usize = 48;
 
-// The number has no sign.
+/// The number has no sign.
 pub const UNSIGNED_FLAG: u32 = 32;
-// The text is binary data.
+/// The text is binary data.
 pub const BINARY_FLAG: u32 = 128;
-// The column is an enumeration.
+/// The column is an enumeration.
 pub const ENUM_FLAG: u32 = 256;
-// The column is a set.
+/// The column is a set.
 pub const SET_FLAG: u32 = 2048;
 
-// The bits that flags are known for: 0 to 21 and 26 to 30.
+/// The bits that flags are known for: 0 to 21 and 26 to 30.
 pub const KNOWN_FLAGS: u32 = 0x7C3F_FFFF;

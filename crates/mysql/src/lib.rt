@@ -1,4 +1,4 @@
-// Refusals and types of the rows that a MySQL client library returns.
+//! Refusals and types of the rows that a MySQL client library returns.
 #![tactic(auto)]
 
 mod backend;

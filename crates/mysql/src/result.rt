@@ -1,8 +1,8 @@
-// What kind of failure a database reported.
+//! What kind of failure a database reported.
 ghost use Rattle.std.specs.Prelude.{◌≡◌};
-ghost use Rattle.mysql.specs.Refusals.{kind_of};
+ghost use Rattle.mysql.specs.Refusals.{kind_number, kind_of};
 
-// The numbers are those of the original, where they do not follow the order of declaration.
+/// The numbers are those of the original, where they do not follow the order of declaration.
 #[derive(Clone, Copy, PartialEq, Eq, Debug)]
 pub enum DatabaseErrorKind {
     UniqueViolation = 0,
@@ -18,7 +18,16 @@ pub enum DatabaseErrorKind {
     Unknown = 8,
 }
 
-// The kind of failure that a MySQL error number stands for.
+impl DatabaseErrorKind {
+    /// Its number.
+    pub fn number(self) -> u8
+        ensures { result ≡ kind_number self }
+    {
+        self as u8
+    }
+}
+
+/// The kind of failure that a MySQL error number stands for.
 impl From<u16> for DatabaseErrorKind {
     ghost from_gives = { λ number kind. kind ≡ kind_of number };
 

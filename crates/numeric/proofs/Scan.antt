@@ -1,23 +1,85 @@
--- The parts of numeric text in the library's words: its dots, what stands before the first, and the integer that `parse` finds there.
+-- What is left to read of a number's text at a byte, with n read so far.
 -- Assumes nothing.
-use Rattle.std.proofs.Common.{◌≡◌, ℕ, zero, suc, ◌+◌, ◌-◌, ◌^◌, ◌<◌, ◌≤◌, ◌≤ℤ◌, ◌<ℤ◌, negsuc, ⊎_elim, Bool, true, false, cond, eqb, ltb, leb, List, [], ◌∷◌, length, ℤ, pos, neg_ℤ, Some, None, Ok, Err, Result, w64, refl, ◌∙◌, inl, inr, arith, rules}
-use Rattle.std.specs.List.{count_by, position_or_len, before_first}
-use Rattle.std.specs.Str.Parse.{ParsesSigned}
-use Rattle.std.proofs.lemmas.Str.Parse.{IsNumeralModel, numerals_by_fold, parse_signed_plain, parse_signed_minus, parse_signed_plus}
+use Rattle.std.proofs.Common.{◌≡◌, ℕ, zero, suc, ◌+◌, ◌-◌, ◌*◌, ◌<◌, ◌≤◌, Bool, true, false, cond, ◌&&◌, eqb, ltb, leb, ◌⊎◌, List, [], ◌∷◌, length, get_or, take, drop, ℤ, pos, neg_ℤ, Some, None, Ok, Err, Option, sym, refl, ap, ◌∙◌, subst, inl, inr, arith}
+use Rattle.std.proofs.lemmas.List.{drop_more, drop_all, take_rest}
+use Rattle.std.proofs.lemmas.Bool.{le-leb, lt-leb, lt-ltb, eq-eqb, ne_eqb}
+use Rattle.std.proofs.lemmas.Bool.Decides.{nat_tests, leb_tells, eqb_tells}
+use Rattle.std.specs.List.{count_by}
 use Rattle.std.proofs.lemmas.List.Recursion.{is_count_by}
-use Rattle.std.proofs.lemmas.Grind.{common_steps}
-use Rattle.std.proofs.lemmas.Bool.{le-leb, lt-ltb, le-ltb, cases_Bool}
-use Rattle.std.proofs.lemmas.Bool.Decides.{leb_tells, eqb_tells}
-use Rattle.std.proofs.lemmas.Int.{ints}
 use Rattle.mysql.specs.Faults.{refused}
-use Rattle.mysql.specs.declared.fault.Fault.{Fault}
 use Rattle.mysql.specs.declared.fault.Refusal.TheVariants.{InvalidInteger}
-use Rattle.numeric.specs.Utf8.{utf8}
-use Rattle.numeric.specs.Decimals.{dots, before_dot, digits, value_from, natural, integer_text, positive, negative, decimal}
+use Rattle.numeric.specs.Decimals.{dots, before_dot, digit, digits, numeral, value_from, natural, integer_text, positive, negative}
 use Rattle.numeric.specs.Targets.{in_range}
 
-pub own : IsNumeralModel (λ ds. digits ds ≡ true) (value_from 0)
-own = numerals_by_fold _ (search rules) value_from (search rules)
+abbrev pub after : ℕ → ℕ → List ℕ → Option ℕ
+after limit n bs = cond (digits (before_dot bs) && leb (value_from n (before_dot bs)) limit) (Some (value_from n (before_dot bs))) None
+
+at_end : (limit n : ℕ) → n ≤ limit → after limit n [] ≡ Some n
+at_end limit n h = rw (le-leb n limit h)
+
+at_dot : (limit n b : ℕ) (bs : List ℕ) → b ≡ 46 → n ≤ limit → after limit n (b ∷ bs) ≡ Some n
+at_dot limit n b bs e h = rw (eq-eqb b 46 e, le-leb n limit h)
+
+at_digit : (limit n b : ℕ) (bs : List ℕ) → 48 ≤ b → b ≤ 57 → after limit n (b ∷ bs) ≡ after limit (10 * n + (b - 48)) bs
+at_digit limit n b bs h k = let ne : b ≡ 46 → ⊥ = λ e. omega arith in rw (ne_eqb b 46 ne, le-leb 48 b h, le-leb b 57 k)
+
+-- what is read only grows
+grows : (bs : List ℕ) (n : ℕ) → n ≤ value_from n bs
+grows [] n = omega arith
+grows (b ∷ bs) n = let h = grows bs (10 * n + (b - 48)) in omega arith
+
+and_false : (b : Bool) → (b && false) ≡ false
+and_false true = refl
+and_false false = refl
+
+at_full : (limit n b : ℕ) (bs : List ℕ) → 48 ≤ b → b ≤ 57 → limit < 10 * n + (b - 48) → after limit n (b ∷ bs) ≡ None
+at_full limit n b bs h k over =
+    at_digit limit n b bs h k
+    ∙ (let g = grows (before_dot bs) (10 * n + (b - 48)) in
+    let f : leb (value_from (10 * n + (b - 48)) (before_dot bs)) limit ≡ false = lt-leb _ _ (omega arith) in
+    rw (f, and_false (digits (before_dot bs))))
+
+at_other : (limit n b : ℕ) (bs : List ℕ) → (b ≡ 46 → ⊥) → (b < 48) ⊎ (57 < b) → after limit n (b ∷ bs) ≡ None
+at_other limit n b bs ne o = let f : digit b ≡ false = grind (arith, nat_tests) in rw (ne_eqb b 46 ne, f)
+
+start : (limit b : ℕ) (bs : List ℕ) → 48 ≤ b → b ≤ 57 → natural limit (before_dot (b ∷ bs)) ≡ after limit 0 (b ∷ bs)
+start limit b bs h k = let ne : b ≡ 46 → ⊥ = λ e. omega arith in rw (ne_eqb b 46 ne)
+
+-- the same at an index of the text
+
+pub end_from : (limit n i : ℕ) (s : List ℕ) → length s ≤ i → n ≤ limit → after limit n (drop i s) ≡ Some n
+end_from limit n i s h k = ap (after limit n) (drop_all i s h) ∙ at_end limit n k
+
+pub dot_from : (limit n i : ℕ) (s : List ℕ) → i < length s → get_or s i 0 ≡ 46 → n ≤ limit → after limit n (drop i s) ≡ Some n
+dot_from limit n i s h e k = ap (after limit n) (drop_more s i 0 h) ∙ at_dot limit n (get_or s i 0) (drop (i + 1) s) e k
+
+pub digit_from : (limit n i : ℕ) (s : List ℕ) → i < length s → 48 ≤ get_or s i 0 → get_or s i 0 ≤ 57
+    → after limit n (drop i s) ≡ after limit (10 * n + (get_or s i 0 - 48)) (drop (i + 1) s)
+digit_from limit n i s h a b = ap (after limit n) (drop_more s i 0 h) ∙ at_digit limit n (get_or s i 0) (drop (i + 1) s) a b
+
+pub full_from : (limit n i : ℕ) (s : List ℕ) → i < length s → 48 ≤ get_or s i 0 → get_or s i 0 ≤ 57 → limit < 10 * n + (get_or s i 0 - 48)
+    → after limit n (drop i s) ≡ None
+full_from limit n i s h a b o = ap (after limit n) (drop_more s i 0 h) ∙ at_full limit n (get_or s i 0) (drop (i + 1) s) a b o
+
+pub other_from : (limit n i : ℕ) (s : List ℕ) → i < length s → (get_or s i 0 ≡ 46 → ⊥) → (get_or s i 0 < 48) ⊎ (57 < get_or s i 0)
+    → after limit n (drop i s) ≡ None
+other_from limit n i s h ne o = ap (after limit n) (drop_more s i 0 h) ∙ at_other limit n (get_or s i 0) (drop (i + 1) s) ne o
+
+pub begins : (limit : ℕ) (s : List ℕ) → 0 < length s → 48 ≤ get_or s 0 0 → get_or s 0 0 ≤ 57 → natural limit (before_dot s) ≡ after limit 0 s
+begins limit [] h a b = absurd (omega arith)
+begins limit (x ∷ xs) h a b = start limit x xs a b
+
+pub none_at_none : (limit : ℕ) (s : List ℕ) → length s < 1 → natural limit (before_dot s) ≡ None
+none_at_none limit [] h = refl
+none_at_none limit (x ∷ xs) h = absurd (omega arith)
+
+pub none_at_other : (limit : ℕ) (s : List ℕ) → 0 < length s → (get_or s 0 0 < 48) ⊎ (57 < get_or s 0 0) → natural limit (before_dot s) ≡ None
+none_at_other limit [] h o = refl
+none_at_other limit (x ∷ xs) h o =
+    elim (eqb_tells x 46) [
+      | inl p ↦ rw p.0
+      | inr p ↦ let f : digit x ≡ false = grind (arith, nat_tests) in rw (p.0, f)
+    ]
 
 -- dots
 
@@ -28,88 +90,74 @@ counted false n = omega arith
 pub dots_are : (bs : List ℕ) → dots bs ≡ count_by (λ b. eqb b 46) bs
 dots_are = is_count_by dots (λ b. eqb b 46) refl (λ b bs. counted (eqb b 46) (dots bs))
 
-pub before_is : (bs : List ℕ) → before_dot bs ≡ before_first (λ b. eqb b 46) bs
-before_is [] = refl
-before_is (b ∷ bs) =
-    let h = before_is bs in
+-- the sign, and what follows it as a pattern cuts it
+
+abbrev pub tail : List ℕ → List ℕ
+tail s = take (length s - 1) (drop 1 s)
+
+pub minus_at : (half : ℕ) (s : List ℕ) → 0 < length s → get_or s 0 0 ≡ 45 → integer_text half (before_dot s) ≡ negative (natural half (before_dot (tail s)))
+minus_at half [] h e = absurd (omega arith)
+minus_at half (b ∷ bs) h e =
+    let ne : b ≡ 46 → ⊥ = λ q. omega arith in
+    rw (ne_eqb b 46 ne, eq-eqb b 45 e) (ap (λ u. negative (natural half (before_dot u))) (sym (take_rest (b ∷ bs) 1)))
+
+pub plus_at : (half : ℕ) (s : List ℕ) → 0 < length s → get_or s 0 0 ≡ 43 → integer_text half (before_dot s) ≡ positive (natural (half - 1) (before_dot (tail s)))
+plus_at half [] h e = absurd (omega arith)
+plus_at half (b ∷ bs) h e =
+    let ne : b ≡ 46 → ⊥ = λ q. omega arith in
+    let nm : b ≡ 45 → ⊥ = λ q. omega arith in
+    rw (ne_eqb b 46 ne, ne_eqb b 45 nm, eq-eqb b 43 e) (ap (λ u. positive (natural (half - 1) (before_dot u))) (sym (take_rest (b ∷ bs) 1)))
+
+pub empty_at : (half : ℕ) (s : List ℕ) → length s ≡ 0 → integer_text half (before_dot s) ≡ Err (refused InvalidInteger)
+empty_at half [] h = refl
+empty_at half (b ∷ bs) h = absurd (omega arith)
+
+pub bare_at : (half : ℕ) (s : List ℕ) → (get_or s 0 0 ≡ 45 → ⊥) → (get_or s 0 0 ≡ 43 → ⊥) → integer_text half (before_dot s) ≡ positive (natural (half - 1) (before_dot s))
+bare_at half [] nm np = refl
+bare_at half (b ∷ bs) nm np =
     elim (eqb_tells b 46) [
       | inl p ↦ rw p.0
-      | inr p ↦ rw p.0 (grind (arith, common_steps))
+      | inr p ↦ rw (p.0, ne_eqb b 45 nm, ne_eqb b 43 np)
     ]
 
-pub all_before : (bs : List ℕ) → position_or_len (λ b. eqb b 46) bs ≡ length bs → before_dot bs ≡ bs
-all_before bs e = before_is bs ∙ grind (arith, common_steps)
+-- what is found lies in the range
 
--- the integer: what a text writes, by what `parse` makes of it
-
-abbrev limited : ℕ → ℤ → Result ℤ Fault
-limited half (pos n) = cond (ltb n half) (Ok (pos n)) (Err (refused InvalidInteger))
-limited half (negsuc n) = cond (ltb n half) (Ok (negsuc n)) (Err (refused InvalidInteger))
-
-pub natural_are : (limit : ℕ) (ds : List ℕ) → digits ds ≡ true → 0 < length ds → natural limit ds ≡ cond (leb (value_from 0 ds) limit) (Some (value_from 0 ds)) None
-natural_are limit [] d l = absurd (omega arith)
-natural_are limit (b ∷ bs) d l = rw d
-
-natural_none : (limit : ℕ) (ds : List ℕ) → ((digits ds ≡ true) × (0 < length ds) × (value_from 0 ds ≤ limit) → ⊥) → natural limit ds ≡ None
-natural_none limit [] n = refl
-natural_none limit (b ∷ bs) n =
-    ⊎_elim
-    (λ d. elim (leb_tells (value_from 0 (b ∷ bs)) limit) [
-      | inl p ↦ absurd (n (d, omega arith, p.1))
-      | inr p ↦ rw (d, p.0)
-    ])
-    (λ d. rw d)
-    (cases_Bool (digits (b ∷ bs)))
-
-above : (half n : ℕ) → 0 < half → positive (cond (leb n (half - 1)) (Some n) None) ≡ limited half (pos n)
-above half n h =
-    elim (leb_tells n (half - 1)) [
-      | inl p ↦ let f : ltb n half ≡ true = lt-ltb n half (omega arith) in rw (p.0, f)
-      | inr p ↦ let f : ltb n half ≡ false = le-ltb n half (omega arith) in rw (p.0, f)
+found : (t : Bool) (limit n m : ℕ) → ◌≡◌ {A = Option ℕ} (cond (t && leb n limit) (Some n) None) (Some m) → m ≤ limit
+found false limit n m e = let z : ◌≡◌ {A = ℕ} 0 1 = cc in absurd (omega arith)
+found true limit n m e =
+    elim (leb_tells n limit) [
+      | inl p ↦ let q : n ≡ m = cc (rw p.0 at e) in omega arith
+      | inr p ↦ let z : ◌≡◌ {A = ℕ} 0 1 = cc (rw p.0 at e) in absurd (omega arith)
     ]
 
-below : (half n : ℕ) → 0 < half → negative (cond (leb n half) (Some n) None) ≡ limited half (neg_ℤ (pos n))
-below half zero h = let f : ltb 0 half ≡ true = lt-ltb 0 half h in rw (le-leb 0 half (omega arith), f)
-below half (suc n) h =
-    elim (leb_tells (suc n) half) [
-      | inl p ↦ rw p.0
-      | inr p ↦ rw p.0
-    ]
+within : (limit : ℕ) (ds : List ℕ) (m : ℕ) → natural limit ds ≡ Some m → m ≤ limit
+within limit ds m e = found (numeral ds) limit (value_from 0 ds) m e
 
-pub parsed : (half : ℕ) (s : List ℕ) (x : ℤ) → 0 < half → ParsesSigned {E = ℕ} w64 10 s (Ok x) → integer_text half s ≡ limited half x
-parsed half [] x h p = let q = parse_signed_plain own {E = ℕ} w64 [] (Ok x) p (λ e. omega arith) (λ e. omega arith) in absurd (omega (arith, q.0.1))
-parsed half (b ∷ bs) x h p =
+positive_in : (half : ℕ) (o : Option ℕ) (z : ℤ) → 0 < half → ((m : ℕ) → o ≡ Some m → m ≤ half - 1) → positive o ≡ Ok z → in_range half z ≡ Ok z
+positive_in half (Some m) z h k e =
+    let l = k m refl in
+    let q : pos m ≡ z = cc in
+    let f : ltb m half ≡ true = lt-ltb m half (omega arith) in
+    subst (λ (x : ℤ). in_range half x ≡ Ok x) q (rw f)
+positive_in half None z h k e = let w : ◌≡◌ {A = ℕ} 0 1 = cc in absurd (omega arith)
+
+minus_in : (half m : ℕ) → 0 < half → m ≤ half → in_range half (neg_ℤ (pos m)) ≡ Ok (neg_ℤ (pos m))
+minus_in half zero h l = let f : ltb 0 half ≡ true = lt-ltb 0 half h in rw f
+minus_in half (suc m) h l = let f : ltb m half ≡ true = lt-ltb m half (omega arith) in rw f
+
+negative_in : (half : ℕ) (o : Option ℕ) (z : ℤ) → 0 < half → ((m : ℕ) → o ≡ Some m → m ≤ half) → negative o ≡ Ok z → in_range half z ≡ Ok z
+negative_in half (Some m) z h k e =
+    let q : neg_ℤ (pos m) ≡ z = cc in
+    subst (λ (x : ℤ). in_range half x ≡ Ok x) q (minus_in half m h (k m refl))
+negative_in half None z h k e = let w : ◌≡◌ {A = ℕ} 0 1 = cc in absurd (omega arith)
+
+pub text_in : (half : ℕ) (s : List ℕ) (z : ℤ) → 0 < half → integer_text half s ≡ Ok z → in_range half z ≡ Ok z
+text_in half [] z h e = let w : ◌≡◌ {A = ℕ} 0 1 = cc in absurd (omega arith)
+text_in half (b ∷ bs) z h e =
     elim (eqb_tells b 45) [
-      | inl e ↦ let q = parse_signed_minus own {E = ℕ} w64 (b ∷ bs) (Ok x) p e.1 in rw (e.0, natural_are half bs q.0.0 q.0.1, q.1) (below half (value_from 0 bs) h)
-      | inr e ↦ elim (eqb_tells b 43) [
-        | inl f ↦ let q = parse_signed_plus own {E = ℕ} w64 (b ∷ bs) (Ok x) p f.1 in rw (e.0, f.0, natural_are (half - 1) bs q.0.0 q.0.1, q.1) (above half (value_from 0 bs) h)
-        | inr f ↦ let q = parse_signed_plain own {E = ℕ} w64 (b ∷ bs) (Ok x) p f.1 e.1 in rw (e.0, f.0, natural_are (half - 1) (b ∷ bs) q.0.0 q.0.1, q.1) (above half (value_from 0 (b ∷ bs)) h)
+      | inl p ↦ negative_in half (natural half bs) z h (λ m q. within half bs m q) (rw p.0 at e)
+      | inr p ↦ elim (eqb_tells b 43) [
+        | inl q ↦ positive_in half (natural (half - 1) bs) z h (λ m r. within (half - 1) bs m r) (rw (p.0, q.0) at e)
+        | inr q ↦ positive_in half (natural (half - 1) (b ∷ bs)) z h (λ m r. within (half - 1) (b ∷ bs) m r) (rw (p.0, q.0) at e)
       ]
     ]
-
-pub unparsed : (half : ℕ) (s : List ℕ) → half ≤ 2 ^ 63 → ParsesSigned {E = ℕ} w64 10 s (Err 0) → integer_text half s ≡ Err (refused InvalidInteger)
-unparsed half [] h p = refl
-unparsed half (b ∷ bs) h p =
-    elim (eqb_tells b 45) [
-      | inl e ↦ let q = parse_signed_minus own {E = ℕ} w64 (b ∷ bs) (Err 0) p e.1 in rw (e.0, natural_none half bs (λ k. q (k.0, k.1, omega (arith, k.2))))
-      | inr e ↦ elim (eqb_tells b 43) [
-        | inl f ↦ let q = parse_signed_plus own {E = ℕ} w64 (b ∷ bs) (Err 0) p f.1 in rw (e.0, f.0, natural_none (half - 1) bs (λ k. q (k.0, k.1, omega (arith, k.2))))
-        | inr f ↦ let q = parse_signed_plain own {E = ℕ} w64 (b ∷ bs) (Err 0) p f.1 e.1 in rw (e.0, f.0, natural_none (half - 1) (b ∷ bs) (λ k. q (k.0, k.1, omega (arith, k.2))))
-      ]
-    ]
-
-pub limited_in : (half : ℕ) (x : ℤ) → neg_ℤ (pos half) ≤ℤ x → x <ℤ pos half → (limited half x ≡ Ok x) × (in_range half x ≡ Ok x)
-limited_in half (pos n) l h = let f : ltb n half ≡ true = lt-ltb n half (omega (arith, ints)) in (rw f, rw f)
-limited_in half (negsuc n) l h = let f : ltb n half ≡ true = lt-ltb n half (omega (arith, ints)) in (rw f, rw f)
-
-pub limited_low : (half : ℕ) (x : ℤ) → x <ℤ neg_ℤ (pos half) → limited half x ≡ Err (refused InvalidInteger)
-limited_low half (pos n) l = absurd (omega (arith, ints))
-limited_low half (negsuc n) l = let f : ltb n half ≡ false = le-ltb n half (omega (arith, ints)) in rw f
-
-pub limited_high : (half : ℕ) (x : ℤ) → pos half ≤ℤ x → limited half x ≡ Err (refused InvalidInteger)
-limited_high half (pos n) l = let f : ltb n half ≡ false = le-ltb n half (omega (arith, ints)) in rw f
-limited_high half (negsuc n) l = absurd (omega (arith, ints))
-
--- a text with these three facts reads as what stands before its dot
-pub reads_as : (half : ℕ) (bs ds : List ℕ) → utf8 bs ≡ true → dots bs ≤ 1 → before_dot bs ≡ ds → decimal half bs ≡ integer_text half ds
-reads_as half bs ds u d b = rw (u, le-leb (dots bs) 1 d, b)

@@ -1,4 +1,4 @@
-// Numeric text as an integer of a target type.
+//! Numeric text as an integer of a target type.
 #![tactic(auto)]
 
 mod decimal;

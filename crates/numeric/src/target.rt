@@ -1,11 +1,11 @@
-// The integer types that values are read as.
+//! The integer types that values are read as.
 ghost use Rattle.std.specs.Prelude.{◌≡◌, ℕ, ◌^◌, ◌≤◌, ℤ};
 ghost use Rattle.mysql.specs.Answers.{through};
 ghost use Rattle.numeric.specs.Targets.{in_range};
 
 use mysql::{Fault, Refusal};
 
-// An integer type, which holds the numbers from -half up to half - 1.
+/// An integer type, which holds the numbers from -half up to half - 1.
 pub trait Target: Sized {
     ghost half: { ℕ };
 
@@ -17,12 +17,12 @@ pub trait Target: Sized {
         ensures low { 10 ≤ result }
         ensures high { result ≤ 2 ^ 63 };
 
-    // The same number, where the type holds it.
+    /// The same number, where the type holds it.
     fn narrow(x: i64) -> Result<Self, Fault>
         ensures { through whole result ≡ in_range half x };
 }
 
-// Two impls of two lines each: a default body of `narrow` would ask `TryFrom<i64>` of every target.
+/// Two impls of two lines each: a default body of `narrow` would ask `TryFrom<i64>` of every target.
 impl Target for i32 {
     ghost half = { 2 ^ 31 };
 

@@ -51,7 +51,7 @@ module _ {H : Type 0} (means : H → Meaning) (m : Meaning) (pairs : List Column
   kind_of (failure i) f answer fault None h = absurd (let j = sym h ∙ ap host_error_of fault in cc)
   kind_of (failure i) f answer fault (Some k) h = (refl, refl, refl)
 
-  module _ (counts : RowCounts) (s s' : Session H) (a a' : List ℕ) (so_far : Counting counts s a) (r : Result Fetch Fault) (w : Leaves means m pairs n r s s' a') where
+  module _ (counts : RowCounts) (s s' : Session H) (a a' : List ℕ) (so_far : Counting counts s a) (r : Result Fetch Fault) (w : Leaves means m pairs n r s s' a a') where
     abbrev coming : List Event
     coming = (means s.host).coming
 

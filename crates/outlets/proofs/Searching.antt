@@ -1,5 +1,5 @@
 -- A search for the first row of a class.
-use Rattle.std.proofs.Common.{◌≡◌, ℕ, ◌^◌, ℤ, true, false, List, [], ◌∷◌, ◌++◌, inl, inr, Some, None, Ok, Err, Option, Result, sym, refl, ap, ◌∙◌, subst}
+use Rattle.std.proofs.Common.{◌≡◌, ℕ, ◌^◌, ℤ, true, false, List, [], ◌∷◌, ◌++◌, inl, inr, Some, None, Ok, Err, Option, Result, length, sym, refl, ap, ◌∙◌, subst}
 use Rattle.std.proofs.lemmas.List.{append-nil, append_assoc}
 use Rattle.std.specs.List.{AllByRecursion}
 use Rattle.mysql.specs.declared.bind.Column.{Column}
@@ -10,12 +10,18 @@ use Rattle.rows.specs.declared.answers.Fetch.TheVariants as fetch
 use Rattle.readings.specs.Integers.{integer}
 use Rattle.rows.specs.Dues.{read, read_as, fetched}
 use Rattle.session.specs.declared.state.Session.{Session}
-use Rattle.session.specs.Sessions.{row_due}
+use Rattle.session.specs.Sessions.{row_due, table_of}
+use Rattle.rows.specs.Reach.{capacities_of, first_capacities, capacities_after}
 use Rattle.going.specs.Going.{Going, Leaves, RowShown}
+use Rattle.going.specs.Arenas.{LeavesArena}
+use Rattle.going.proofs.Reached.{Reached, one_more, no_more}
 use Rattle.outlets.specs.Events.{is_row}
 use Rattle.outlets.specs.Outlets.{as_text, outlet_of, some_if, ShowsClass, Copied, OutletIn}
 
-module _ {H : Type 0} (means : H → Meaning) (m : Meaning) (pairs : List Column) (n : ℕ) (class : ℤ) where
+module _ {H : Type 0} (means : H → Meaning) (m : Meaning) (pairs : List Column) (a₀ : List ℕ) (class : ℤ) where
+  abbrev n : ℕ
+  n = length a₀
+
   abbrev pub ShowsNone : Event → Type 0
   ShowsNone e = ShowsClass pairs n class e → ⊥
 
@@ -34,19 +40,21 @@ module _ {H : Type 0} (means : H → Meaning) (m : Meaning) (pairs : List Column
     pub before : List Event
     pub there : m.coming ≡ before ++ (means s.host).coming
     pub none : AllByRecursion ShowsNone before
+    pub reached : Reached means m pairs n (first_capacities pairs) a₀ before s a
     pub same : into' ≡ into
 
-  pub at_start : (into : List ℕ) (s : Session H) (a : List ℕ) → Going means m pairs n s a → m.coming ≡ (means s.host).coming → Searching into s a into
-  at_start into s a going first = record { going = going; before = []; there = first; none = tt; same = refl }
+  pub at_start : (into : List ℕ) (s : Session H) → Going means m pairs n s a₀ → m.coming ≡ (means s.host).coming → capacities_of (table_of s) ≡ first_capacities pairs → Searching into s a₀ into
+  at_start into s going there first = record { going = going; before = []; there = there; none = tt; reached = record { capacities = first; beyond = λ p l. refl }; same = refl }
 
-  module _ (into : List ℕ) (s s' : Session H) (a a' into' : List ℕ) (so_far : Searching into s a into') (r : Result Fetch Fault) (w : Leaves means m pairs n r s s' a') where
+  module _ (into : List ℕ) (s s' : Session H) (a a' into' : List ℕ) (so_far : Searching into s a into') (r : Result Fetch Fault) (w : Leaves means m pairs n r s s' a a') where
     -- the next event shows no row of the class either
-    passed_over : (e : Event) → (means s.host).coming ≡ e ∷ (means s'.host).coming → ShowsNone e → Searching into s' a' into'
-    passed_over e next none = record {
+    passed_over : (e : Event) → (means s.host).coming ≡ e ∷ (means s'.host).coming → ShowsNone e → capacities_of (table_of s') ≡ capacities_after pairs n (capacities_of (table_of s)) e → Searching into s' a' into'
+    passed_over e next none after = record {
       going = w.going;
       before = so_far.before ++ e ∷ [];
       there = so_far.there ∙ ap (λ (ys : List Event). so_far.before ++ ys) next ∙ sym (append_assoc so_far.before (e ∷ []) (means s'.host).coming);
       none = all_and_one so_far.before e so_far.none none;
+      reached = one_more _ _ _ _ _ _ so_far.before s s' a a' so_far.reached r w e after;
       same = so_far.same;
     }
 
@@ -58,23 +66,22 @@ module _ {H : Type 0} (means : H → Meaning) (m : Meaning) (pairs : List Column
     class_is shown = ap (read_as (integer (2 ^ 31)) 0) (read_is shown 0)
 
     pub another_class : r ≡ Ok fetch.Row → (read_as (integer (2 ^ 31)) 0 (row_due means s' 0) ≡ Ok class → ⊥) → Searching into s' a' into'
-    another_class is other = let shown = w.row is in passed_over (row shown.is) shown.next (λ h. other (class_is shown ∙ h.1))
+    another_class is other = let shown = w.row is in passed_over (row shown.is) shown.next (λ h. other (class_is shown ∙ h.1)) shown.capacities
 
     pub no_row : (f : Fault) → r ≡ Err f → Searching into s' a' into'
-    no_row f is = let refused = w.refused f is in passed_over refused.is refused.next (refused_shows refused.is f refused.answer)
+    no_row f is = let refused = w.refused f is in passed_over refused.is refused.next (refused_shows refused.is f refused.answer) refused.capacities
 
     -- the end
-    pub not_found : r ≡ Ok fetch.End → OutletIn pairs n class m.coming into (Ok None) into'
-    not_found is = inr (record {
-      nowhere = subst (AllByRecursion ShowsNone) (sym (so_far.there ∙ ap (λ (ys : List Event). so_far.before ++ ys) (w.end is).none ∙ append-nil so_far.before)) so_far.none;
-      none = refl;
-      same = so_far.same;
-    })
+    pub not_found : r ≡ Ok fetch.End → OutletIn pairs a₀ a' class m.coming into (Ok None) into'
+    not_found is =
+        let all : m.coming ≡ so_far.before = so_far.there ∙ ap (λ (ys : List Event). so_far.before ++ ys) (w.end is).none ∙ append-nil so_far.before in
+        let now = no_more _ _ _ _ _ _ so_far.before s s' a a' so_far.reached r w (w.end is).capacities in
+        inr (record { nowhere = subst (AllByRecursion ShowsNone) (sym all) so_far.none; none = refl; same = so_far.same; arena = rw all now.beyond })
 
     -- a row of the class, whose outlet was copied
     pub found : r ≡ Ok fetch.Row → read_as (integer (2 ^ 31)) 0 (row_due means s' 0) ≡ Ok class
         → (answer : Result ℕ Fault) (result : Result (Option ℕ) Fault) (into'' : List ℕ) → result ≡ some_if answer → Copied (read_as as_text 1 (row_due means s' 1)) answer into' into''
-        → OutletIn pairs n class m.coming into result into''
+        → OutletIn pairs a₀ a' class m.coming into result into''
     found is of_class answer result into'' answers copy =
         let shown = w.row is in
         inl (record {
@@ -87,4 +94,27 @@ module _ {H : Type 0} (means : H → Meaning) (m : Meaning) (pairs : List Column
           answer = answer;
           answers = answers;
           outlet = subst (λ (x : List ℕ). Copied (outlet_of pairs shown.is) answer x into'') so_far.same (subst (λ (x : Result (List ℕ) Fault). Copied x answer into' into'') (ap (read_as as_text 1) (read_is shown 1)) copy);
+          arena = (one_more _ _ _ _ _ _ so_far.before s s' a a' so_far.reached r w (row shown.is) shown.capacities).beyond;
         })
+
+-- what is left of an arena that changed at the opening too
+pub from_opening : (pairs : List Column) (class : ℤ) (coming : List Event) (a a₁ a₂ into : List ℕ) (result : Result (Option ℕ) Fault) (into' : List ℕ) → length a₁ ≡ length a
+    → ((gone : List Event) → LeavesArena (Ok pairs) gone a₁ a₂ → LeavesArena (Ok pairs) gone a a₂) → OutletIn pairs a₁ a₂ class coming into result into' → OutletIn pairs a a₂ class coming into result into'
+from_opening pairs class coming a a₁ a₂ into result into' long past (inl x) = inl (record {
+  before = x.before;
+  is = x.is;
+  after = x.after;
+  there = x.there;
+  shown = subst (λ (n : ℕ). ShowsClass pairs n class (row x.is)) long x.shown;
+  first = subst (λ (n : ℕ). AllByRecursion (λ e. ShowsClass pairs n class e → ⊥) x.before) long x.first;
+  answer = x.answer;
+  answers = x.answers;
+  outlet = x.outlet;
+  arena = past (x.before ++ row x.is ∷ []) x.arena;
+})
+from_opening pairs class coming a a₁ a₂ into result into' long past (inr x) = inr (record {
+  nowhere = subst (λ (n : ℕ). AllByRecursion (λ e. ShowsClass pairs n class e → ⊥) coming) long x.nowhere;
+  none = x.none;
+  same = x.same;
+  arena = past coming x.arena;
+})

@@ -1,5 +1,5 @@
 -- What is said of a class list that was recorded: of the columns and events of the tape that the bytes are, or that they are none.
-use Rattle.std.specs.Prelude.{◌≡◌, ℕ, ℤ, false, List, [], ◌⊎◌, map, Err, Option, Result}
+use Rattle.std.specs.Prelude.{◌≡◌, ℕ, ℤ, false, List, [], ◌⊎◌, map, length, Err, Option, Result}
 use Rattle.mysql.specs.declared.bind.Column.{Column}
 use Rattle.mysql.specs.declared.fault.Fault.{Fault}
 use Rattle.mysql.specs.declared.fault.Refusal.TheVariants.{BrokenTape}
@@ -7,6 +7,7 @@ use Rattle.mysql.specs.Faults.{refused}
 use Rattle.rows.specs.Dues.{opening}
 use Rattle.tape.specs.Format.{Contents, TapeOf, NoTape}
 use Rattle.tape_host.specs.Tapes.{own_code, event_shown}
+use Rattle.going.specs.Arenas.{LeavesArena}
 use Rattle.outlets.specs.declared.count.RowCounts.{RowCounts}
 use Rattle.outlets.specs.Events.{CountsDue}
 use Rattle.outlets.specs.Outlets.{OutletDue}
@@ -21,14 +22,19 @@ pub record Recorded (bytes : List ℕ) (Holds : Contents → Type 0) : Type 0 wh
 abbrev pub opened : ℕ → Contents → Result (List Column) Fault
 opened arena c = opening false arena (own_code c.columns) [] c.columns
 
--- the counts, or refusal 23
-abbrev pub RecordedCounts : List ℕ → ℕ → Result RowCounts Fault → Type 0
-RecordedCounts bytes arena result =
-    Recorded bytes (λ c. CountsDue (opened arena c) arena (map event_shown c.events) result)
-    ⊎ (NoTape bytes × (result ≡ Err (refused BrokenTape)))
+-- the counts and what they leave of the arena; or refusal 23 and an arena as it was
+abbrev pub CountsAndArena : Contents → (a a' : List ℕ) → Result RowCounts Fault → Type 0
+CountsAndArena c a a' result =
+    let coming = map event_shown c.events in
+    CountsDue (opened (length a) c) (length a) coming result × LeavesArena (opened (length a) c) coming a a'
 
--- the outlet, or refusal 23 and a buffer as it was
-abbrev pub RecordedOutlet : List ℕ → ℕ → ℤ → List ℕ → Result (Option ℕ) Fault → List ℕ → Type 0
-RecordedOutlet bytes arena class into result into' =
-    Recorded bytes (λ c. OutletDue (opened arena c) arena class (map event_shown c.events) into result into')
-    ⊎ (NoTape bytes × (result ≡ Err (refused BrokenTape)) × (into' ≡ into))
+abbrev pub RecordedCounts : List ℕ → (a a' : List ℕ) → Result RowCounts Fault → Type 0
+RecordedCounts bytes a a' result =
+    Recorded bytes (λ c. CountsAndArena c a a' result)
+    ⊎ (NoTape bytes × (result ≡ Err (refused BrokenTape)) × (a' ≡ a))
+
+-- the outlet and what it leaves of the arena; or refusal 23, and arena and buffer as they were
+abbrev pub RecordedOutlet : List ℕ → (a a' : List ℕ) → ℤ → List ℕ → Result (Option ℕ) Fault → List ℕ → Type 0
+RecordedOutlet bytes a a' class into result into' =
+    Recorded bytes (λ c. OutletDue (opened (length a) c) a a' class (map event_shown c.events) into result into')
+    ⊎ (NoTape bytes × (result ≡ Err (refused BrokenTape)) × (into' ≡ into) × (a' ≡ a))

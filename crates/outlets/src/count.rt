@@ -1,8 +1,9 @@
-// How many rows of a result a session shows.
+//! How many rows of a result a session shows.
 ghost use Rattle.std.specs.Prelude.{◌≡◌, false, [], length};
 ghost use Rattle.rows.specs.Standing.{pairs_of};
 ghost use Rattle.rows.specs.Dues.{opening};
 ghost use Rattle.session.specs.Sessions.{table_of};
+ghost use Rattle.going.specs.Arenas.{LeavesArena, LeavesPast};
 ghost use Rattle.going.specs.Going.{Ready};
 ghost use Rattle.outlets.specs.Events.{counts_of, CountsDue};
 
@@ -12,7 +13,7 @@ use mysql::Fault;
 use rows::Fetch;
 use session::Session;
 
-// How many rows are shown, how many are refused, and how many failures come in place of rows; each at most 2^64 - 1.
+/// How many rows are shown, how many are refused, and how many failures come in place of rows; each at most 2^64 - 1.
 #[repr(C)]
 #[derive(Clone, Copy, Default)]
 pub struct RowCounts {
@@ -21,10 +22,11 @@ pub struct RowCounts {
     pub failures: u64,
 }
 
-// Fetches to the end, and counts. A loop: each turn has what its fetch answered.
+/// Fetches to the end, and counts. A loop: each turn has what its fetch answered.
 fn count_fetches<H: Host>(session: &mut Session<H>, arena: &mut [u8]) -> RowCounts
     requires { Ready H.Host.meaning session.old arena.old }
-    ensures { result ≡ counts_of (pairs_of (table_of session.old)) (length arena.old) (H.Host.meaning session.old.host).coming }
+    ensures arena { LeavesPast session.old (H.Host.meaning session.old.host).coming arena.old arena.new }
+    ensures counts { result ≡ counts_of (pairs_of (table_of session.old)) (length arena.old) (H.Host.meaning session.old.host).coming }
 {
     let mut counts = RowCounts::default();
     loop {
@@ -39,9 +41,10 @@ fn count_fetches<H: Host>(session: &mut Session<H>, arena: &mut [u8]) -> RowCoun
     }
 }
 
-// Counts the rows that a session over this host and arena shows, to the end of the result, or says why it cannot be opened.
+/// Counts the rows that a session over this host and arena shows, to the end of the result, or says why it cannot be opened.
 pub fn count_rows<H: Host + Drop>(host: H, arena: &mut [u8]) -> Result<RowCounts, Fault>
-    ensures { CountsDue (opening false (length arena.old) (H.Host.meaning host).carries [] (H.Host.meaning host).columns) (length arena.old) (H.Host.meaning host).coming result }
+    ensures arena { LeavesArena (opening false (length arena.old) (H.Host.meaning host).carries [] (H.Host.meaning host).columns) (H.Host.meaning host).coming arena.old arena.new }
+    ensures counts { CountsDue (opening false (length arena.old) (H.Host.meaning host).carries [] (H.Host.meaning host).columns) (length arena.old) (H.Host.meaning host).coming result }
 {
     let mut session = Session::new(host);
     match session.open(arena, &[]) {

@@ -1,6 +1,7 @@
-// The outlet of a class.
+//! The outlet of a class.
 ghost use Rattle.std.specs.Prelude.{◌≡◌, ◌^◌, ◌<◌, true, false, [], length, Ok, IfOk, IfSome};
 ghost use Rattle.readings.specs.Integers.{integer};
+ghost use Rattle.rows.specs.Reach.{capacities_of, first_capacities};
 ghost use Rattle.rows.specs.Standing.{pairs_of};
 ghost use Rattle.rows.specs.Dues.{opening, read_as};
 ghost use Rattle.session.specs.Sessions.{row_due, table_of};
@@ -13,12 +14,12 @@ use mysql::{Fault, Refusal};
 use rows::Fetch;
 use session::Session;
 
-// The columns of a class list.
+/// The columns of a class list.
 pub const CLASS: usize = 0;
 
 pub const OUTLET: usize = 1;
 
-// Copies bytes to the front of a buffer that has room for all of them. One that has not stays as it is, since half a text may be another's name.
+/// Copies bytes to the front of a buffer that has room for all of them. One that has not stays as it is, since half a text may be another's name.
 fn copy_whole(bytes: &[u8], into: &mut [u8])
     ensures { into.new ≡ copied bytes.now into.old }
 {
@@ -27,7 +28,7 @@ fn copy_whole(bytes: &[u8], into: &mut [u8])
     }
 }
 
-// Whether the row that is shown is of a class.
+/// Whether the row that is shown is of a class.
 fn is_of_class<H: Host>(session: &Session<H>, arena: &[u8], class: i32) -> bool
     requires { Ready H.Host.meaning session.now arena.now }
     ensures yes { result ≡ true → read_as (integer (2 ^ 31)) 0 (row_due H.Host.meaning session.now 0) ≡ Ok class }
@@ -39,7 +40,7 @@ fn is_of_class<H: Host>(session: &Session<H>, arena: &[u8], class: i32) -> bool
     }
 }
 
-// Copies the outlet of the row that is shown, and answers its length.
+/// Copies the outlet of the row that is shown, and answers its length.
 fn copy_outlet<H: Host>(session: &Session<H>, arena: &[u8], into: &mut [u8]) -> Result<usize, Fault>
     requires { Ready H.Host.meaning session.now arena.now }
     ensures copied { Copied (read_as as_text 1 (row_due H.Host.meaning session.now 1)) result into.old into.new }
@@ -55,16 +56,17 @@ fn copy_outlet<H: Host>(session: &Session<H>, arena: &[u8], into: &mut [u8]) -> 
     }
 }
 
-// Fetches rows up to the first of a class that is shown, and copies its outlet. A row that is refused and a failure show no class: they are passed
-// over.
+/// Fetches rows up to the first of a class that is shown, and copies its outlet. A row that is refused and a failure show no class: they are passed
+/// over.
 fn find<H: Host>(
     session: &mut Session<H>,
     arena: &mut [u8],
     class: i32,
     into: &mut [u8],
 ) -> Result<Option<usize>, Fault>
-    requires { Ready H.Host.meaning session.old arena.old }
-    ensures found { OutletIn (pairs_of (table_of session.old)) (length arena.old) class (H.Host.meaning session.old.host).coming into.old result into.new }
+    requires ready { Ready H.Host.meaning session.old arena.old }
+    requires fresh { capacities_of (table_of session.old) ≡ first_capacities (pairs_of (table_of session.old)) }
+    ensures found { OutletIn (pairs_of (table_of session.old)) arena.old arena.new class (H.Host.meaning session.old.host).coming into.old result into.new }
     ensures small { IfOk result (λ found. IfSome found (λ n. n < 2 ^ 63)) }
 {
     loop {
@@ -80,15 +82,15 @@ fn find<H: Host>(
     }
 }
 
-// Copies the outlet of a class, and answers its length: of the first row with this class that a session over this host and arena shows. There is
-// none where it shows no such row. A buffer that is too short for the outlet stays as it is.
+/// Copies the outlet of a class, and answers its length: of the first row with this class that a session over this host and arena shows. There is
+/// none where it shows no such row. A buffer that is too short for the outlet stays as it is.
 pub fn find_outlet<H: Host + Drop>(
     host: H,
     arena: &mut [u8],
     class: i32,
     into: &mut [u8],
 ) -> Result<Option<usize>, Fault>
-    ensures found { OutletDue (opening false (length arena.old) (H.Host.meaning host).carries [] (H.Host.meaning host).columns) (length arena.old) class (H.Host.meaning host).coming into.old result into.new }
+    ensures found { OutletDue (opening false (length arena.old) (H.Host.meaning host).carries [] (H.Host.meaning host).columns) arena.old arena.new class (H.Host.meaning host).coming into.old result into.new }
     ensures small { IfOk result (λ found. IfSome found (λ n. n < 2 ^ 63)) }
 {
     let mut session = Session::new(host);

@@ -1,4 +1,4 @@
-// Class lists, read through a session over any host: a result whose first column is a class, and whose second is the outlet of that class.
+//! Class lists, read through a session over any host: a result whose first column is a class, and whose second is the outlet of that class.
 #![tactic(auto)]
 
 mod count;

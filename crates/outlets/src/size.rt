@@ -1,4 +1,4 @@
-// How much a tape holds.
+//! How much a tape holds.
 ghost use Rattle.outlets.specs.Sizes.{Sized};
 
 use mysql::Fault;
@@ -11,7 +11,7 @@ pub struct TapeSize {
     pub events: usize,
 }
 
-// The numbers of columns and events of a tape, or the refusal of bytes that are none.
+/// The numbers of columns and events of a tape, or the refusal of bytes that are none.
 pub fn tape_size(bytes: &[u8]) -> Result<TapeSize, Fault>
     ensures { Sized bytes.now result }
 {

@@ -26,9 +26,9 @@ pub record SizeTold (bytes : List ℕ) (before : TapeSize) (result : ℤ) (after
   pub tells : result ≡ status answer
   pub writes : after ≡ written before answer
 
-pub record CountsTold (bytes : List ℕ) (arena : ℕ) (before : RowCounts) (result : ℤ) (after : RowCounts) : Type 0 where
+pub record CountsTold (bytes a a' : List ℕ) (before : RowCounts) (result : ℤ) (after : RowCounts) : Type 0 where
   pub answer : Result RowCounts Fault
-  pub is : RecordedCounts bytes arena answer
+  pub is : RecordedCounts bytes a a' answer
   pub tells : result ≡ status answer
   pub writes : after ≡ written before answer
 
@@ -38,7 +38,7 @@ length_or (Ok (Some n)) = pos n
 length_or (Ok None) = pos 0 -ℤ pos 1000
 length_or (Err f) = told f
 
-pub record OutletTold (bytes : List ℕ) (arena : ℕ) (class : ℤ) (before : List ℕ) (result : ℤ) (after : List ℕ) : Type 0 where
+pub record OutletTold (bytes a a' : List ℕ) (class : ℤ) (before : List ℕ) (result : ℤ) (after : List ℕ) : Type 0 where
   pub answer : Result (Option ℕ) Fault
-  pub is : RecordedOutlet bytes arena class before answer after
+  pub is : RecordedOutlet bytes a a' class before answer after
   pub tells : result ≡ length_or answer

@@ -8,11 +8,13 @@ use Rattle.mysql.specs.Faults.{refused, host_failed}
 use Rattle.host.specs.Meanings.{Row, Event, Meaning}
 use Rattle.host.specs.Meanings as event
 use Rattle.layout.specs.Tables.{no_pair}
-use Rattle.rows.specs.Bounds.{field_at, row_need, first_loss}
+use Rattle.mysql.specs.declared.backend.MysqlType.{MysqlType}
+use Rattle.mysql.specs.Taken.{taken_pair}
+use Rattle.rows.specs.Bounds.{wanted_of, with_pair, bound_from, field_at, row_need, first_loss}
 use Rattle.rows.specs.declared.answers.Fetch.{Fetch}
 use Rattle.rows.specs.Dues as dues
-use Rattle.rows.specs.Dues.{Shown}
-use Rattle.play.specs.Histories.{Asked, opening, fetch, reading, integer, big_integer, time, Said, Entry, granted, removed, showing_from, IsReading, NoFetch}
+use Rattle.rows.specs.Dues.{TypedBytes}
+use Rattle.play.specs.Histories.{Asked, opening, fetch, reading, integer, big_integer, time, Said, Entry, granted, pairs_if, removed, showing_from, IsReading, NoFetch}
 use Rattle.play.specs.Rules.{fetch_said, shown_said, read_due}
 use Rattle.play.specs.Law.{bound_after, coming_after, SameFields, SameNext, Alike, AnswersAlike}
 use Rattle.play.specs.Machine.{State, start, shown_if, fetch_at, answer, after, Ideal}
@@ -72,7 +74,8 @@ same_row ps n r s ds es h (Err f) k = refl
 same_next : (ps : List Column) (n : ℕ) (ds es : List Event) → SameNext ps ds es → Same ps n ds es
 same_next ps n [] [] h = record { said = refl; reads = λ k. refl }
 same_next ps n [] (e ∷ es) h = absurd h
-same_next ps n (d ∷ ds) [] h = absurd h
+same_next ps n (event.row r ∷ ds) [] h = absurd h
+same_next ps n (event.failure k ∷ ds) [] h = absurd h
 same_next ps n (event.row r ∷ ds) (event.row s ∷ es) h =
     let e = same_fetched r s ps n ds es h in
     record {
@@ -137,10 +140,23 @@ module _ (m : Meaning) (n : ℕ) (history : List Entry) (ideal : Ideal (start m 
       (later there between (record { asked = asked; said = x } ∷ after') (subst (Ideal there) e so.1)).0
       ∙ ap (λ (s : State). answer s asked) (rests there pairs there_bound between quiet)
 
+-- columns are bound alike where the same types are wanted of them
+bound_same : (wanted wanted' : List (Option MysqlType)) (i : ℕ) (cs : List Column) → ((k : ℕ) → k < length cs → wanted_of wanted (i + k) ≡ wanted_of wanted' (i + k)) → bound_from wanted i cs ≡ bound_from wanted' i cs
+bound_same wanted wanted' i [] h = refl
+bound_same wanted wanted' i (c ∷ cs) h =
+    let none : i + 0 ≡ i = omega arith in
+    let here : wanted_of wanted i ≡ wanted_of wanted' i = ap (wanted_of wanted) (sym none) ∙ h 0 (omega arith) ∙ ap (wanted_of wanted') none in
+    let later = bound_same wanted wanted' (suc i) cs
+    (λ k l. let shift : i + suc k ≡ suc i + k = omega arith in ap (wanted_of wanted) (sym shift) ∙ h (suc k) (omega arith) ∙ ap (wanted_of wanted') shift) in
+    ap (λ (w : Option MysqlType). with_pair i (taken_pair w c.code c.flags) (bound_from wanted (suc i) cs)) here
+    ∙ ap (λ (r : Result (List Column) Fault). with_pair i (taken_pair (wanted_of wanted' i) c.code c.flags) r) later
+
 module _ (m m' : Meaning) (n n' : ℕ) (h h' : List Entry) (ideal : Ideal (start m n) h) (ideal' : Ideal (start m' n') h') where
   -- the columns are bound alike
   bound_alike : (before before' : List Entry) → Alike m m' n n' before before' → bound_after m' before' ≡ bound_after m before
-  bound_alike before before' a = rw (a.opened', a.opened, a.columns) refl
+  bound_alike before before' a =
+      rw (a.opened', a.opened, sym a.columns)
+      (ap pairs_if (sym (bound_same a.wanted a.wanted' 0 m.columns (λ k l. let z : 0 + k ≡ k = omega arith in rw z (a.same_wanted k l)))))
 
   pub alike : AnswersAlike m m' n n' h h'
   alike before before' rest rest' said said' e e' a =

@@ -1,14 +1,16 @@
 -- What the ideal session says is lawful.
-use Rattle.std.proofs.Common.{◌≡◌, ℕ, Bool, true, false, ltb, List, [], ◌∷◌, ◌++◌, is_some, Some, None, Option, sym, refl, ap, ◌∙◌, subst}
+use Rattle.std.proofs.Common.{◌≡◌, ℕ, Bool, true, false, ltb, List, [], ◌∷◌, ◌++◌, drop, is_some, Some, None, Option, sym, refl, ap, ◌∙◌, subst}
 use Rattle.mysql.specs.declared.bind.Column.{Column}
 use Rattle.host.specs.Meanings.{Row, Event, Meaning}
 use Rattle.host.specs.Meanings as event
 use Rattle.rows.specs.Bounds.{first_loss, row_need}
 use Rattle.rows.specs.Dues as dues
-use Rattle.play.specs.Histories.{Asked, fetch, Said, row, Entry, granted, removed, showing_from, NoFetch}
-use Rattle.play.specs.Rules.{fetch_said, fetch_due, reading_due}
+use Rattle.play.specs.Histories.{Asked, opening, fetch, reading, Said, row, Entry, granted, removed, showing_from, NoFetch}
+use Rattle.play.specs.Rules.{fetch_said, fetch_due, reading_due, shown_said}
 use Rattle.play.specs.Law.{Shows, Exactly, Lawful}
 use Rattle.play.specs.Machine.{State, start, shown_if, fetch_at, answer, after, Ideal}
+use Rattle.play.specs.Words.{InWords}
+use Rattle.play.proofs.Words.{fetch_when, opening_when, unopened_when, reading_when}
 use Rattle.play.proofs.Runs.{run, later, earlier, says_due, rests, Went, from_start}
 
 -- none is shown where it is said that none is
@@ -90,5 +92,27 @@ module _ (m : Meaning) (n : ℕ) (history : List Entry) (ideal : Ideal (start m 
         no_row = λ due q d. h ∙ says_due s asked due (rw (w.bound_as, none_shown s.shown (w.shows_as ∙ q)) d);
       }
 
+  in_words : InWords m n history
+  in_words =
+      record {
+        openings = λ before after' wanted said e. opening_when m n before wanted said ((refused_exactly before after' (opening wanted) said e).openings wanted refl);
+        unopened = λ before after' said e.
+            let w = came before (record { asked = fetch; said = said } ∷ after') e in
+            unopened_when n said m.columns (granted before) (drop (removed before) m.coming) (sym (ap is_some w.bound_as) ∙ w.opens) ((refused_exactly before after' fetch said e).fetches refl);
+        fetches = λ before after' said pairs e b.
+            fetch_when n pairs said (drop (removed before) m.coming)
+            ((refused_exactly before after' fetch said e).fetches refl ∙ ap (λ (o : Option (List Column)). fetch_said (fetch_due o n (drop (removed before) m.coming))) b);
+        readings = λ before between after' k said pairs e quiet b.
+            let x = row_shows_itself before between after' (reading k) said e quiet in
+            let y : ◌≡◌ {A = Option (List Column)} (Some x.pairs) (Some pairs) = sym x.bound ∙ b in
+            let same : x.pairs ≡ pairs = cc in
+            record {
+              fields = x.fields;
+              rest = x.rest;
+              next = x.met;
+              holds = reading_when x.fields pairs k said (x.answers (shown_said (dues.read x.pairs (Some x.fields) k)) refl ∙ ap (λ (ps : List Column). shown_said (dues.read ps (Some x.fields) k)) same);
+            };
+      }
+
   pub lawful : Lawful m n history
-  lawful = record { row_shows_itself = row_shows_itself; refused_exactly = refused_exactly }
+  lawful = record { row_shows_itself = row_shows_itself; refused_exactly = refused_exactly; in_words = in_words }

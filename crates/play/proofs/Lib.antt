@@ -1,6 +1,9 @@
 pub mod Runs
+pub mod Words
 pub mod Lawful
 pub mod Alikes
 pub mod Moves
-pub mod Players
+pub mod Reaches
+pub mod Stepping
 pub mod Plays
+pub mod Collects

@@ -1,5 +1,5 @@
 -- A call of a session is a step of the ideal session that it stands for.
-use Rattle.std.proofs.Common.{◌≡◌, ℕ, Bool, true, false, cond, eqb, List, [], ◌∷◌, length, is_some as option_is_some, Some, None, Ok, Err, Option, Result, MatchResult, sym, refl, ap, ◌∙◌}
+use Rattle.std.proofs.Common.{◌≡◌, ℕ, Bool, true, false, cond, eqb, List, [], ◌∷◌, length, is_some as option_is_some, Some, None, Ok, Err, Option, Result, sym, refl, ap, ◌∙◌}
 use Rattle.std.proofs.lemmas.Bool.{eq-eqb}
 use Rattle.mysql.specs.declared.backend.MysqlType.{MysqlType}
 use Rattle.mysql.specs.declared.bind.Column.{Column}
@@ -10,22 +10,18 @@ use Rattle.host.specs.Meanings.{Row, Event, Meaning}
 use Rattle.host.specs.Meanings as event
 use Rattle.layout.specs.declared.table.ColumnTable.{ColumnTable}
 use Rattle.rows.specs.declared.answers.Fetch.{Fetch}
-use Rattle.rows.specs.declared.answers.Fetch.TheVariants as fetch_answer
 use Rattle.session.specs.declared.answers.Slip.{Slip}
 use Rattle.session.specs.declared.state.Session.{Session}
 use Rattle.rows.specs.Dues as dues
 use Rattle.session.specs.Sessions as session
 use Rattle.rows.specs.Standing.{pairs_of}
-use Rattle.session.specs.Sessions.{table_of, is_open, is_shown, shown_row, Sound, Holds, passes, past_checks, record_shown, Opened, NotOpened, AfterOpening, AfterFetch, NotFetched}
-use Rattle.play.specs.declared.calls.Answer.{Answer}
-use Rattle.play.specs.declared.calls.Answer.TheVariants as answers
-use Rattle.play.specs.Histories.{opening, fetch}
+use Rattle.session.specs.Sessions.{table_of, is_open, is_shown, shown_row, Sound, Holds, passes, past_checks, record_shown, OpeningGranted, OpeningRefused, AfterOpening, AfterFetch, NotFetched}
+use Rattle.play.specs.Histories.{opening, fetch, Said, opened, refused_with}
 use Rattle.play.specs.Rules.{opening_said, fetch_said, fetch_due, read_due}
 use Rattle.play.specs.Machine.{State, opening_at, rest_of, shown_if, fetch_at}
-use Rattle.play.specs.Calls.{said_of, fetch_answered}
 use Rattle.play.specs.Moves.{ideal_of, Ready, Moved}
 
-is_some : {X : Type 0} (b : Bool) (x : X) → option_is_some (cond b (Some x) None) ≡ b
+pub is_some : {X : Type 0} (b : Bool) (x : X) → option_is_some (cond b (Some x) None) ≡ b
 is_some true x = refl
 is_some false x = refl
 
@@ -34,43 +30,43 @@ pub same_state : (x y : State) → x.columns ≡ y.columns → x.carries ≡ y.c
 same_state x y p q r s t u = λ i. record { columns = p i; carries = q i; arena = r i; coming = s i; bound = t i; shown = u i }
 
 -- a session that is not opened passes no check
-unopened : {H X : Type 0} (s : Session H) (n : ℕ) (r : Result X Fault) → is_open s ≡ false → past_checks s n r ≡ Err (refused Unopened)
+pub unopened : {H X : Type 0} (s : Session H) (n : ℕ) (r : Result X Fault) → is_open s ≡ false → past_checks s n r ≡ Err (refused Unopened)
 unopened s n r o = rw o refl
 
 -- one that is opened over an arena of this length passes both
-opened_past : {H X : Type 0} (s : Session H) (n : ℕ) (r : Result X Fault) → is_open s ≡ true → eqb n (table_of s).room ≡ true → past_checks s n r ≡ r
+pub opened_past : {H X : Type 0} (s : Session H) (n : ℕ) (r : Result X Fault) → is_open s ≡ true → eqb n (table_of s).room ≡ true → past_checks s n r ≡ r
 opened_past s n r o l = rw (o, l) refl
 
 module _ {H : Type 0} (m : Meaning) (s : Session H) (a : List ℕ) (ready : Ready m s a) where
-  same_length : is_open s ≡ true → eqb (length a) (table_of s).room ≡ true
+  pub same_length : is_open s ≡ true → eqb (length a) (table_of s).room ≡ true
   same_length o = eq-eqb (length a) (table_of s).room (sym (ready.room o))
 
-  passed : is_open s ≡ true → passes s a ≡ true
+  pub passed : is_open s ≡ true → passes s a ≡ true
   passed o = rw (o, same_length o) refl
 
-  stopped : is_open s ≡ false → passes s a ≡ false
+  pub stopped : is_open s ≡ false → passes s a ≡ false
   stopped o = rw o refl
 
 -- openings
 
--- what an opening answers
-abbrev pub opening_answer : Result Slip Fault → Answer
-opening_answer (Ok slip) = answers.Opened
-opening_answer (Err f) = answers.Refused f
+-- what an opening says
+abbrev pub slip_said : Result Slip Fault → Said
+slip_said (Ok slip) = opened
+slip_said (Err f) = refused_with f
 
 module _ {H : Type 0} (m m' : Meaning) (s s' : Session H) (a a' : List ℕ) (wanted : List (Option MysqlType)) (long : length a' ≡ length a) (ready : Ready m s a) (sound : Sound m' s') (holds : Holds m' s' a') where
-  granted_opening : (pairs : List Column) → Opened m m' s s' pairs a a' → ideal_of m' s' a' ≡ opening_at (ideal_of m s a) (Ok pairs)
+  granted_opening : (pairs : List Column) → OpeningGranted m m' s s' pairs a a' → ideal_of m' s' a' ≡ opening_at (ideal_of m s a) (Ok pairs)
   granted_opening pairs o =
       same_state (ideal_of m' s' a') (opening_at (ideal_of m s a) (Ok pairs))
       (rw o.host refl) (rw o.host refl) long (rw o.host refl) (rw (o.opened, o.bound_with) refl) (rw o.no_row refl)
 
-  refused_opening : (f : Fault) → NotOpened f m m' s s' a a' → ideal_of m' s' a' ≡ ideal_of m s a
+  refused_opening : (f : Fault) → OpeningRefused f m m' s s' a a' → ideal_of m' s' a' ≡ ideal_of m s a
   refused_opening f o =
       same_state (ideal_of m' s' a') (ideal_of m s a)
       (rw o.host refl) (rw o.host refl) long (rw o.host refl) (rw (o.opened, o.table) refl) (rw (o.shown, o.host) refl)
 
   opening_by : (r : Result Slip Fault) (d : Result (List Column) Fault) → dues.opening (option_is_some (ideal_of m s a).bound) (length a) m.carries wanted m.columns ≡ d → AfterOpening r d m m' s s' a a'
-      → Moved (ideal_of m s a) (opening wanted) (opening_answer r) m' s' a'
+      → Moved (ideal_of m s a) (opening wanted) (slip_said r) m' s' a'
   opening_by (Ok slip) (Ok pairs) e w =
       record {
         says = sym (ap opening_said e);
@@ -91,7 +87,7 @@ module _ {H : Type 0} (m m' : Meaning) (s s' : Session H) (a a' : List ℕ) (wan
       }
 
   pub opening_moved : (r : Result Slip Fault) → AfterOpening r (dues.opening (is_open s) (length a) m.carries wanted m.columns) m m' s s' a a'
-      → Moved (ideal_of m s a) (opening wanted) (opening_answer r) m' s' a'
+      → Moved (ideal_of m s a) (opening wanted) (slip_said r) m' s' a'
   opening_moved r w =
       opening_by r (dues.opening (is_open s) (length a) m.carries wanted m.columns)
       (ap (λ (b : Bool). dues.opening b (length a) m.carries wanted m.columns) (is_some (is_open s) (pairs_of (table_of s)))) w
@@ -103,16 +99,6 @@ module _ {H : Type 0} (m m' : Meaning) (s s' : Session H) (a a' : List ℕ) wher
   opens_not f (Err g) w = w.1.opened
 
 -- fetches
-
--- an answer that holds what a fetch came to, or the fault
-pub fetched_answer : (r : Result Fetch Fault) (a : Answer) → MatchResult r (λ x. a ≡ fetch_answered (Ok x)) (λ f. a ≡ answers.Refused f) → a ≡ fetch_answered r
-fetched_answer (Ok x) a e = e
-fetched_answer (Err f) a e = e
-
-fetch_says : (r : Result Fetch Fault) → said_of (fetch_answered r) ≡ fetch_said r
-fetch_says (Ok fetch_answer.Row) = refl
-fetch_says (Ok fetch_answer.End) = refl
-fetch_says (Err f) = refl
 
 -- the ideal session after a fetch of one that is opened with these columns
 module _ {H : Type 0} (m m' : Meaning) (s s' : Session H) (a a' : List ℕ) (long : length a' ≡ length a) where
@@ -186,11 +172,11 @@ module _ {H : Type 0} (m m' : Meaning) (s s' : Session H) (a a' : List ℕ) (lon
       there_opened false = is_some (is_open s) (pairs_of (table_of s))
 
   pub fetch_moved : r ≡ session.fetch_answer s a m.coming → (passes s a ≡ false → NotFetched s s' a a') → (passes s a ≡ true → AfterFetch m.coming r m m' s s' a a')
-      → Moved (ideal_of m s a) fetch (fetch_answered r) m' s' a'
+      → Moved (ideal_of m s a) fetch (fetch_said r) m' s' a'
   fetch_moved e n w =
       let f = fetch_by (is_open s) refl e n w in
       record {
-        says = fetch_says r ∙ ap fetch_said f.0;
+        says = ap fetch_said f.0;
         to = f.1;
         ready = record { room = f.2; sound = sound; holds = holds };
       }

@@ -82,7 +82,7 @@ pub record Went (s t : State) (grants : Option (List (Option MysqlType))) (away 
   pub shows_as : is_some t.shown ≡ shows
   pub quiet : t.bound ≡ None → t.shown ≡ None
 
-or_none : (b : Bool) → b ≡ (b || false)
+pub or_none : (b : Bool) → b ≡ (b || false)
 or_none true = refl
 or_none false = refl
 
@@ -119,16 +119,16 @@ rest_drops [] = refl
 rest_drops (e ∷ es) = refl
 
 -- a fetch of an opened session removes an event, and shows a row exactly where it says so
-record Fetched (x : Result Fetch Fault) (coming : List Event) : Type 0 where
-  away : removes fetch (fetch_said x) ≡ 1
-  shows : is_some (shown_if x coming) ≡ shows_after false fetch (fetch_said x)
+pub record Fetched (x : Result Fetch Fault) (coming : List Event) : Type 0 where
+  pub away : removes fetch (fetch_said x) ≡ 1
+  pub shows : is_some (shown_if x coming) ≡ shows_after false fetch (fetch_said x)
 
 row_fetched : (loss : Option ℕ) (long : Bool) (r : Row) (es : List Event) → Fetched (dues.row_fetched loss long) (event.row r ∷ es)
 row_fetched (Some k) long r es = record { away = refl; shows = refl }
 row_fetched None true r es = record { away = refl; shows = refl }
 row_fetched None false r es = record { away = refl; shows = refl }
 
-fetched : (pairs : List Column) (n : ℕ) (coming : List Event) → Fetched (dues.fetched pairs n coming) coming
+pub fetched : (pairs : List Column) (n : ℕ) (coming : List Event) → Fetched (dues.fetched pairs n coming) coming
 fetched pairs n [] = record { away = refl; shows = refl }
 fetched pairs n (event.failure k ∷ es) = record { away = refl; shows = refl }
 fetched pairs n (event.row r ∷ es) = row_fetched (first_loss r 0 pairs) (ltb n (row_need r 0 pairs)) r es
@@ -150,7 +150,7 @@ fetch_went s (Some pairs) e q =
       quiet = λ z. let y : ◌≡◌ {A = ℕ} 0 1 = cc in absurd (omega arith);
     }
 
-step_went : (s : State) (asked : Asked) → (s.bound ≡ None → s.shown ≡ None)
+pub step_went : (s : State) (asked : Asked) → (s.bound ≡ None → s.shown ≡ None)
     → Went s (after s asked) (granted_by asked (answer s asked)) (removes asked (answer s asked)) (shows_after (is_some s.shown) asked (answer s asked))
 step_went s (opening wanted) q = opening_went s wanted s.bound (dues.opening (is_some s.bound) s.arena s.carries wanted s.columns) refl q refl
 step_went s fetch q = fetch_went s s.bound refl q

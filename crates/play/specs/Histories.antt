@@ -35,18 +35,7 @@ pub record Entry : Type 0 where
 -- an opening that was granted
 abbrev pub granted_by : Asked → Said → Option (List (Option MysqlType))
 granted_by (opening wanted) opened = Some wanted
-granted_by (opening wanted) row = None
-granted_by (opening wanted) end = None
-granted_by (opening wanted) null = None
-granted_by (opening wanted) (bytes t bs) = None
-granted_by (opening wanted) (number n) = None
-granted_by (opening wanted) (moment t) = None
-granted_by (opening wanted) (refused_with f) = None
-granted_by fetch x = None
-granted_by (reading k) x = None
-granted_by (integer k) x = None
-granted_by (big_integer k) x = None
-granted_by (time k) x = None
+granted_by asked said = None
 
 -- the first of two
 abbrev pub first_of : {X : Type 0} → Option X → Option X → Option X
@@ -72,19 +61,9 @@ abbrev pub is_check : ℕ → Bool
 is_check n = n == 1 || n == 3
 
 abbrev pub removes : Asked → Said → ℕ
-removes (opening wanted) x = 0
 removes fetch (refused_with f) = cond (is_check (number_of f.refusal)) 0 1
-removes fetch opened = 1
-removes fetch row = 1
-removes fetch end = 1
-removes fetch null = 1
-removes fetch (bytes t bs) = 1
-removes fetch (number n) = 1
-removes fetch (moment t) = 1
-removes (reading k) x = 0
-removes (integer k) x = 0
-removes (big_integer k) x = 0
-removes (time k) x = 0
+removes fetch said = 1
+removes asked said = 0
 
 abbrev pub removed : List Entry → ℕ
 removed [] = 0
@@ -92,22 +71,12 @@ removed (e ∷ es) = removes e.asked e.said + removed es
 
 -- whether a row is shown after a history, where one was shown before it or not: as its last fetch said
 abbrev pub shows_row : Said → Bool
-shows_row opened = false
 shows_row row = true
-shows_row end = false
-shows_row null = false
-shows_row (bytes t bs) = false
-shows_row (number n) = false
-shows_row (moment t) = false
-shows_row (refused_with f) = false
+shows_row said = false
 
 abbrev pub shows_after : Bool → Asked → Said → Bool
-shows_after b (opening wanted) x = b
-shows_after b fetch x = shows_row x
-shows_after b (reading k) x = b
-shows_after b (integer k) x = b
-shows_after b (big_integer k) x = b
-shows_after b (time k) x = b
+shows_after b fetch said = shows_row said
+shows_after b asked said = b
 
 abbrev pub showing_from : Bool → List Entry → Bool
 showing_from b [] = b
@@ -120,19 +89,12 @@ showing es = showing_from false es
 abbrev pub IsReading : Asked → Type 0
 IsReading (opening wanted) = ⊥
 IsReading fetch = ⊥
-IsReading (reading k) = Unit {0}
-IsReading (integer k) = Unit {0}
-IsReading (big_integer k) = Unit {0}
-IsReading (time k) = Unit {0}
+IsReading asked = Unit {0}
 
 -- no fetch in between
 abbrev pub NotFetch : Asked → Type 0
-NotFetch (opening wanted) = Unit {0}
 NotFetch fetch = ⊥
-NotFetch (reading k) = Unit {0}
-NotFetch (integer k) = Unit {0}
-NotFetch (big_integer k) = Unit {0}
-NotFetch (time k) = Unit {0}
+NotFetch asked = Unit {0}
 
 abbrev pub NoFetch : List Entry → Type 0
 NoFetch [] = Unit {0}

@@ -6,9 +6,10 @@ use Rattle.mysql.specs.declared.bind.Column.{Column}
 use Rattle.host.specs.Meanings.{Row, Event, Meaning}
 use Rattle.host.specs.Meanings as event
 use Rattle.layout.specs.Tables.{no_pair}
-use Rattle.rows.specs.Bounds.{field_at}
+use Rattle.rows.specs.Bounds.{wanted_of, field_at}
 use Rattle.rows.specs.Dues as dues
 use Rattle.play.specs.Histories.{Asked, opening, fetch, Said, row, Entry, granted, bound_with, removed, showing, IsReading, NoFetch}
+use Rattle.play.specs.Words.{InWords}
 use Rattle.play.specs.Rules.{opening_said, fetch_said, fetch_due, reading_due}
 
 -- the columns as they are bound after a history, and the events that are then to come
@@ -35,7 +36,7 @@ RowShowsItself m history =
     → NoFetch between → Shows m before asked said
 
 -- Refused exactly: each opening and each fetch says what the rules demand of the columns, the wanted types, the arena's length and the
--- next event; and where no row is shown, each reading is refused as they demand.
+-- next event, the granted ones included; and where no row is shown, each reading is refused as they demand.
 pub record Exactly (m : Meaning) (n : ℕ) (before : List Entry) (asked : Asked) (said : Said) : Type 0 where
   pub openings : (wanted : List (Option MysqlType)) → asked ≡ opening wanted → said ≡ opening_said (dues.opening (is_some (granted before)) n m.carries wanted m.columns)
   pub fetches : asked ≡ fetch → said ≡ fetch_said (fetch_due (bound_after m before) n (coming_after m before))
@@ -49,6 +50,8 @@ RefusedExactly m n history =
 pub record Lawful (m : Meaning) (n : ℕ) (history : List Entry) : Type 0 where
   pub row_shows_itself : RowShowsItself m history
   pub refused_exactly : RefusedExactly m n history
+  -- the same of refusals, without an order of checks
+  pub in_words : InWords m n history
 
 -- Answers alike: two sessions that were opened alike, each after calls of its own, and whose next events are equal, answer the next fetch
 -- alike, and so each reading that is made in both before a further fetch.
@@ -60,20 +63,20 @@ SameFields pairs r s = (k : ℕ) → k < length pairs → field_at r k (slice_in
 -- next events are equal: both missing, failures of one number, or rows with equal fields
 abbrev pub SameNext : List Column → List Event → List Event → Type 0
 SameNext pairs [] [] = Unit {0}
-SameNext pairs [] (e ∷ es) = ⊥
-SameNext pairs (d ∷ ds) [] = ⊥
 SameNext pairs (event.row r ∷ ds) (event.row s ∷ es) = SameFields pairs r s
-SameNext pairs (event.row r ∷ ds) (event.failure n ∷ es) = ⊥
-SameNext pairs (event.failure n ∷ ds) (event.row s ∷ es) = ⊥
 SameNext pairs (event.failure n ∷ ds) (event.failure k ∷ es) = n ≡ k
+SameNext pairs ds es = ⊥
 
--- opened alike, with equal next events
+-- opened alike, with equal next events: equal columns and arena lengths, and equal wanted types of the columns; entries of the lists that are
+-- missing count as none, and those past the last column are ignored
 pub record Alike (m m' : Meaning) (n n' : ℕ) (before before' : List Entry) : Type 0 where
   pub columns : m.columns ≡ m'.columns
   pub arenas : n ≡ n'
   pub wanted : List (Option MysqlType)
+  pub wanted' : List (Option MysqlType)
   pub opened : granted before ≡ Some wanted
-  pub opened' : granted before' ≡ Some wanted
+  pub opened' : granted before' ≡ Some wanted'
+  pub same_wanted : (k : ℕ) → k < length m.columns → wanted_of wanted k ≡ wanted_of wanted' k
   pub next : (pairs : List Column) → bound_after m before ≡ Some pairs → SameNext pairs (coming_after m before) (coming_after m' before')
 
 pub record AlikeAfter (said said' : Said) (rest rest' : List Entry) : Type 0 where

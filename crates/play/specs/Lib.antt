@@ -1,8 +1,10 @@
 pub mod Histories
 pub mod Rules
+pub mod Words
 pub mod Law
-pub mod Machine
 pub mod Calls
+pub mod Lays
+pub mod Machine
 pub mod Moves
-pub mod Players
 pub mod Plays
+pub mod Collected

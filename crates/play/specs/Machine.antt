@@ -7,7 +7,9 @@ use Rattle.host.specs.Meanings.{Row, Event, Meaning}
 use Rattle.host.specs.Meanings as event
 use Rattle.rows.specs.declared.answers.Fetch.{Fetch}
 use Rattle.rows.specs.Dues as dues
-use Rattle.play.specs.Histories.{Asked, opening, fetch, reading, integer, big_integer, time, Said, Entry}
+use Rattle.play.specs.Histories.{Asked, opening, fetch, Said, end, Entry}
+use Rattle.play.specs.declared.calls.Call.{Call}
+use Rattle.play.specs.Calls.{asked_of}
 use Rattle.play.specs.Rules.{opening_said, fetch_said, fetch_due, reading_due}
 
 pub record State : Type 0 where
@@ -56,20 +58,19 @@ said_or None y = y
 abbrev pub answer : State → Asked → Said
 answer s (opening wanted) = opening_said (dues.opening (is_some s.bound) s.arena s.carries wanted s.columns)
 answer s fetch = fetch_said (fetch_due s.bound s.arena s.coming)
-answer s (reading k) = said_or (reading_due s.bound s.shown (reading k)) Rattle.play.specs.Histories.end
-answer s (integer k) = said_or (reading_due s.bound s.shown (integer k)) Rattle.play.specs.Histories.end
-answer s (big_integer k) = said_or (reading_due s.bound s.shown (big_integer k)) Rattle.play.specs.Histories.end
-answer s (time k) = said_or (reading_due s.bound s.shown (time k)) Rattle.play.specs.Histories.end
+answer s asked = said_or (reading_due s.bound s.shown asked) end
 
 abbrev pub after : State → Asked → State
 after s (opening wanted) = opening_at s (dues.opening (is_some s.bound) s.arena s.carries wanted s.columns)
 after s fetch = fetch_at s s.bound
-after s (reading k) = s
-after s (integer k) = s
-after s (big_integer k) = s
-after s (time k) = s
+after s asked = s
 
 -- a history in which everything is said as this session says it
 abbrev pub Ideal : State → List Entry → Type 0
 Ideal s [] = Unit {0}
 Ideal s (e ∷ es) = (e.said ≡ answer s e.asked) × Ideal (after s e.asked) es
+
+-- what it says to calls, one by one
+abbrev pub told : State → List Call → List Entry
+told s [] = []
+told s (c ∷ cs) = record { asked = asked_of c; said = answer s (asked_of c) } ∷ told (after s (asked_of c)) cs

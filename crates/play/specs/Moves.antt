@@ -1,14 +1,21 @@
 -- How a real session stands to the ideal one, and what a call of the one is to the other.
-use Rattle.std.specs.Prelude.{◌≡◌, ℕ, true, cond, List, length, Some, None, Ok, Err, Result}
+use Rattle.std.specs.Prelude.{◌≡◌, ℕ, true, false, cond, max, ◌||◌, List, [], ◌∷◌, ◌++◌, length, is_some, Some, None, Option}
 use Rattle.host.specs.Meanings.{Meaning}
+use Rattle.layout.specs.Moves.{Beyond}
+use Rattle.session.specs.declared.answers.Slip.{Slip}
 use Rattle.session.specs.declared.state.Session.{Session}
+use Rattle.rows.specs.Reach.{capacities_of}
 use Rattle.rows.specs.Standing.{pairs_of}
 use Rattle.session.specs.Sessions.{table_of, is_open, shown_row, Sound, Holds}
-use Rattle.play.specs.declared.calls.Answer.{Answer}
-use Rattle.play.specs.declared.calls.PlayError.{PlayError}
-use Rattle.play.specs.Histories.{Asked}
+use Rattle.play.specs.Histories.{Asked, Said, Entry, granted_by}
 use Rattle.play.specs.Machine.{State, answer, after}
-use Rattle.play.specs.Calls.{said_of}
+use Rattle.play.specs.Lays.{Lay, lay_end, lay_after}
+
+-- the arena, the bind list and the current row are as they were
+pub record Untouched (m m' : Meaning) (a a' : List ℕ) : Type 0 where
+  pub arena : a' ≡ a
+  pub bound : m'.bound ≡ m.bound
+  pub current : m'.current ≡ m.current
 
 module _ {H : Type 0} where
   -- the ideal session that a session over a host that means m, and an arena a, stand for
@@ -22,28 +29,47 @@ module _ {H : Type 0} where
     shown = shown_row m s;
   }
 
+  -- the places of its columns, and the events to come
+  abbrev pub lay_of : Meaning → Session H → Lay
+  lay_of m s = record { pairs = pairs_of (table_of s); capacities = capacities_of (table_of s); coming = m.coming }
+
   -- a session that is opened was opened over an arena of this length, and the row that it shows stands whole in this arena
   pub record Ready (m : Meaning) (s : Session H) (a : List ℕ) : Type 0 where
     pub room : is_open s ≡ true → (table_of s).room ≡ length a
     pub sound : Sound m s
     pub holds : Holds m s a
 
-  -- a call was answered as the ideal session x answers it, and the session stands for what x is after it
-  pub record Moved (x : State) (asked : Asked) (r : Answer) (m : Meaning) (s : Session H) (a : List ℕ) : Type 0 where
-    pub says : said_of r ≡ answer x asked
-    pub to : ideal_of m s a ≡ after x asked
-    pub ready : Ready m s a
+  -- a call to which this was said: the ideal session says it too, and the session stands for what that is after it
+  pub record Moved (x : State) (asked : Asked) (said : Said) (m' : Meaning) (s' : Session H) (a' : List ℕ) : Type 0 where
+    pub says : said ≡ answer x asked
+    pub to : ideal_of m' s' a' ≡ after x asked
+    pub ready : Ready m' s' a'
 
-  -- memory ran out: the session stands for what it stood for
-  pub record NotMoved (x : State) (m : Meaning) (s : Session H) (a : List ℕ) : Type 0 where
-    pub same : ideal_of m s a ≡ x
-    pub ready : Ready m s a
+  -- what it does to the places and the arena: no byte past them changes, and nothing while the session is not opened
+  pub record Reaches (asked : Asked) (said : Said) (m m' : Meaning) (s s' : Session H) (a a' : List ℕ) : Type 0 where
+    pub lay : lay_of m' s' ≡ lay_after (length a) m.columns (lay_of m s) (record { asked = asked; said = said })
+    pub past : Beyond (max (lay_end (lay_of m s)) (lay_end (lay_of m' s'))) a a'
+    pub untouched : is_open s' ≡ false → Untouched m m' a a'
 
-  abbrev pub MovedIf : State → Asked → Result Answer PlayError → Meaning → Session H → List ℕ → Type 0
-  MovedIf x asked (Ok r) m s a = Moved x asked r m s a
-  MovedIf x asked (Err e) m s a = NotMoved x m s a
+-- what the ideal session says to what is asked
+abbrev pub said_at : State → Asked → Entry
+said_at x asked = record { asked = asked; said = answer x asked }
 
--- a reading was answered as x answers it, unless memory ran out
-abbrev pub SaidIf : State → Asked → Result Answer PlayError → Type 0
-SaidIf x asked (Ok r) = said_of r ≡ answer x asked
-SaidIf x asked (Err e) = Unit {0}
+-- a session over its own host, which means what `means` says of it
+module _ {H : Type 0} (means : H → Meaning) where
+  abbrev pub Stands : Session H → List ℕ → Type 0
+  Stands s a = Ready (means s.host) s a
+
+  abbrev pub standing : Session H → List ℕ → State
+  standing s a = ideal_of (means s.host) s a
+
+  pub record Steps (asked : Asked) (said : Said) (s s' : Session H) (a a' : List ℕ) : Type 0 where
+    pub moved : Moved (standing s a) asked said (means s'.host) s' a'
+    pub reaches : Reaches asked said (means s.host) (means s'.host) s s' a a'
+
+-- a call of a session that stands for an ideal one: the listener is told what that says, and the slip of a granted opening is kept
+module _ {H L : Type 0} (means : H → Meaning) (heard : L → List Entry → Type 0) where
+  pub record Answered (asked : Asked) (held held' : Option Slip) (s s' : Session H) (a a' : List ℕ) (l l' : L) : Type 0 where
+    pub steps : Steps means asked (answer (standing means s a) asked) s s' a a'
+    pub slip : is_some held' ≡ (is_some held || is_some (granted_by asked (answer (standing means s a) asked)))
+    pub hears : (history : List Entry) → heard l history → heard l' (history ++ said_at (standing means s a) asked ∷ [])

@@ -1,5 +1,5 @@
 pub mod Ends
 pub mod Patterns
 pub mod Numbers
-pub mod Lengths
 pub mod Backs
+pub mod Records

@@ -1,7 +1,6 @@
--- Times: the record MYSQL_TIME of MySQL's C headers, as it lies on 64-bit Linux. It takes 48 bytes: six numbers of four bytes,
--- from the year to the second, the microseconds in eight, the sign in one (byte 32), and, from bytes 36 and 40 on, the kind
--- and the time zone's displacement, signed, in four bytes each. Bytes 33 to 35 and 44 to 47 are spare, and are not looked at.
-use Rattle.std.specs.Prelude.{ℕ, false, cond, List, length, take, drop, Ok, Err, Result, ◌==◌, nat_le, slice_index}
+-- The way back from bytes to a time, which takes each field from its place in the record MYSQL_TIME. Nobody need believe the places:
+-- that this reads each record back as the time that it is of, and refuses the rest as it has to, is a law (`TimesReadBack`).
+use Rattle.std.specs.Prelude.{ℕ, Bool, false, cond, List, length, take, drop, Ok, Err, Result, ◌==◌, nat_le, slice_index}
 use Rattle.std.proofs.Common.{to_z}
 use Rattle.std.specs.Int.{w32}
 use Rattle.mysql.specs.declared.fault.Fault.{Fault}
@@ -37,8 +36,11 @@ abbrev pub by_sign : ℕ → List ℕ → Result MysqlTime Fault
 by_sign sign bs = cond (sign == 0) (Ok (record_at bs)) (cond (sign == 1) (Err (refused NegativeTime)) (Err (refused InvalidSign)))
 
 -- the types from Time to Timestamp have the numbers 11 to 14
+abbrev pub is_time : MysqlType → Bool
+is_time t = between 11 14 (row_of t)
+
 abbrev pub time : MysqlType → List ℕ → Result MysqlTime Fault
 time t bs =
-    cond (between 11 14 (row_of t))
+    cond (is_time t)
     (cond (nat_le 48 (length bs)) (by_sign (slice_index bs 32) bs) (Err (refused TooShort)))
     (Err (refused WrongType))

@@ -1,16 +1,16 @@
-// Values as dates and times.
+//! Values as dates and times.
 ghost use Rattle.std.specs.Prelude.{◌≡◌, ◌+◌, ◌≤◌, length, take, drop};
-ghost use Rattle.mysql.specs.Kept.{row_of};
-ghost use Rattle.mysql.specs.Ranges.{between};
-ghost use Rattle.readings.specs.Times.{record_at, time};
+ghost use Rattle.readings.specs.Bytes.{le};
+ghost use Rattle.readings.specs.Records.{ReadsTime};
+ghost use Rattle.readings.specs.Times.{is_time, record_at, time};
 
-use crate::value::MysqlValue;
+use crate::value::{FromNeBytes, MysqlValue};
 use mysql::{Fault, MYSQL_TIME_SIZE, MysqlType, Refusal};
 
-// Where the record's sign lies.
+/// Where the record's sign lies.
 const SIGN: usize = 32;
 
-// A date, a time or both, in the order of the fields of MYSQL_TIME. Nothing checks that they are one of a calendar.
+/// A date, a time or both, in the order of the fields of MYSQL_TIME. Nothing checks that they are one of a calendar.
 #[derive(Clone, Copy, PartialEq, Eq, Debug)]
 pub struct MysqlTime {
     pub year: u32,
@@ -19,28 +19,27 @@ pub struct MysqlTime {
     pub hour: u32,
     pub minute: u32,
     pub second: u32,
-    // microseconds
+    /// microseconds
     pub second_part: u64,
-    // whether it is negative, a flag as in MYSQL_TIME; a reading never gives such a one
+    /// whether it is negative, a flag as in MYSQL_TIME; a reading never gives such a one
     pub neg: bool,
-    // 0 for a date, 1 for both, 2 for a time: a number as in C's record, where nothing checks it
+    /// 0 for a date, 1 for both, 2 for a time: a number as in C's record, where nothing checks it
     pub time_type: i32,
-    // in seconds
+    /// in seconds
     pub time_zone_displacement: i32,
 }
 
-// The bytes that lie at an offset.
-fn bytes_at<const N: usize>(raw: &[u8], at: usize) -> &[u8; N]
-    requires { at + N ≤ length raw.now }
-    ensures bytes { result.now ≡ take N (drop at raw.now) }
-    ensures length { length result.now ≡ N }
+/// The number that lies at an offset.
+fn number_at<T: FromNeBytes>(raw: &[u8], at: usize) -> T
+    requires { at + T.FromNeBytes.width ≤ length raw.now }
+    ensures { result ≡ T.FromNeBytes.value (le (take T.FromNeBytes.width (drop at raw.now))) }
 {
-    raw[at..].first_chunk().unwrap()
+    T::from_ne_prefix(&raw[at..])
 }
 
-// Whether values of a type are times.
+/// Whether values of a type are times.
 fn is_time(tpe: MysqlType) -> bool
-    ensures { result ≡ between 11 14 (row_of tpe) }
+    ensures { result ≡ is_time tpe }
 {
     matches!(
         tpe,
@@ -48,9 +47,10 @@ fn is_time(tpe: MysqlType) -> bool
     )
 }
 
-// The time that a value holds, where its type is one of times.
+/// The time that a value holds, where its type is one of times.
 pub fn time_value(value: &MysqlValue) -> Result<MysqlTime, Fault>
-    ensures { result ≡ time value.now.tpe value.now.raw.now }
+    ensures exact { result ≡ time value.now.tpe value.now.raw.now }
+    ensures record_read { ReadsTime value.now.tpe value.now.raw.now result }
 {
     if !is_time(value.value_type()) {
         return Err(Fault::new(Refusal::WrongType));
@@ -66,21 +66,21 @@ pub fn time_value(value: &MysqlValue) -> Result<MysqlTime, Fault>
     }
 }
 
-// The record, of which the sign was looked at.
+/// The record, of which the sign was looked at.
 fn read_record(raw: &[u8]) -> MysqlTime
     requires { 48 ≤ length raw.now }
     ensures { result ≡ record_at raw.now }
 {
     MysqlTime {
-        year: u32::from_ne_bytes(*bytes_at(raw, 0)),
-        month: u32::from_ne_bytes(*bytes_at(raw, 4)),
-        day: u32::from_ne_bytes(*bytes_at(raw, 8)),
-        hour: u32::from_ne_bytes(*bytes_at(raw, 12)),
-        minute: u32::from_ne_bytes(*bytes_at(raw, 16)),
-        second: u32::from_ne_bytes(*bytes_at(raw, 20)),
-        second_part: u64::from_ne_bytes(*bytes_at(raw, 24)),
+        year: number_at(raw, 0),
+        month: number_at(raw, 4),
+        day: number_at(raw, 8),
+        hour: number_at(raw, 12),
+        minute: number_at(raw, 16),
+        second: number_at(raw, 20),
+        second_part: number_at(raw, 24),
         neg: false,
-        time_type: i32::from_ne_bytes(*bytes_at(raw, 36)),
-        time_zone_displacement: i32::from_ne_bytes(*bytes_at(raw, 40)),
+        time_type: number_at(raw, 36),
+        time_zone_displacement: number_at(raw, 40),
     }
 }

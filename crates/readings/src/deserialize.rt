@@ -1,4 +1,4 @@
-// Typed readings: what a value is as an i32, an i64 or a time.
+//! Typed readings: what a value is as an i32, an i64 or a time.
 ghost use Rattle.std.specs.Prelude.{◌≡◌, ℕ, ◌^◌, List, Result as Answer};
 ghost use Rattle.mysql.specs.declared.fault.Fault.{Fault as AnyFault};
 ghost use Rattle.mysql.specs.declared.backend.MysqlType.{MysqlType as AnyType};
@@ -11,17 +11,16 @@ use crate::primitives::integer_value;
 use crate::value::MysqlValue;
 use mysql::{Fault, Refusal};
 
-// A type that values are read as.
+/// A type that values are read as.
 pub trait FromSql: Sized {
-    // What a value of a type and with some bytes is read as. (Of type and bytes, and of no `MysqlValue`: the session's definitions
-    // have the two, and no view.)
+    // What a value of a type and with some bytes is read as.
     ghost reads: { AnyType → List ℕ → Answer Self AnyFault };
 
     fn from_sql(value: &MysqlValue) -> Result<Self, Fault>
         ensures { result ≡ reads value.now.tpe value.now.raw.now };
 }
 
-// Integer. (No impl over `T: Target`: it would overlap with MysqlTime's.)
+/// Integer.
 impl FromSql for i32 {
     ghost reads = { integer (2 ^ 31) };
 
@@ -30,7 +29,7 @@ impl FromSql for i32 {
     }
 }
 
-// BigInt
+/// BigInt
 impl FromSql for i64 {
     ghost reads = { integer (2 ^ 63) };
 
@@ -39,7 +38,7 @@ impl FromSql for i64 {
     }
 }
 
-// Time, Date, Datetime and Timestamp
+/// Time, Date, Datetime and Timestamp
 impl FromSql for MysqlTime {
     ghost reads = { time };
 
@@ -48,7 +47,7 @@ impl FromSql for MysqlTime {
     }
 }
 
-// The reading of a value that may be null, which is refused.
+/// The reading of a value that may be null, which is refused.
 pub fn from_nullable_sql<T: FromSql>(value: Option<MysqlValue>) -> Result<T, Fault>
     ensures { result ≡ nullable T.FromSql.reads value.entry }
 {

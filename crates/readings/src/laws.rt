@@ -1,6 +1,10 @@
-// A law over the readings, in terms of what was written. The function does nothing: its contract is the law.
-ghost use Rattle.readings.specs.Laws.{WholeReadsBack};
+//! Laws over the readings, in terms of what was written. The functions do nothing: their contracts are the laws.
+ghost use Rattle.readings.specs.Laws.{FloatsReadAsWholeParts, TimesReadBack};
 
-pub fn whole_floats_read_back()
-    ensures { WholeReadsBack }
+pub fn floats_read_as_whole_parts()
+    ensures { FloatsReadAsWholeParts }
+{}
+
+pub fn times_read_back()
+    ensures { TimesReadBack }
 {}

@@ -1,4 +1,4 @@
-// What a typed reading makes of a value's bytes and type.
+//! What a typed reading makes of a value's bytes and type.
 #![tactic(auto)]
 
 mod date_and_time;
@@ -11,6 +11,6 @@ mod value;
 pub use date_and_time::{MysqlTime, time_value};
 pub use deserialize::{FromSql, from_nullable_sql};
 pub use floats::{f32_to_i64, f64_to_i64};
-pub use laws::whole_floats_read_back;
+pub use laws::{floats_read_as_whole_parts, times_read_back};
 pub use primitives::integer_value;
 pub use value::{MysqlValue, NumericRepresentation};

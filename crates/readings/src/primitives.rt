@@ -1,4 +1,4 @@
-// Values as integers.
+//! Values as integers.
 ghost use Rattle.std.specs.Prelude.{◌≡◌, pos};
 ghost use Rattle.mysql.specs.Answers.{through};
 ghost use Rattle.numeric.specs.Targets.{in_range};
@@ -9,7 +9,7 @@ use crate::value::{MysqlValue, NumericRepresentation};
 use mysql::{Fault, Refusal};
 use numeric::{Target, decimal_to_integer};
 
-// The whole number that a value stands for, where the target holds it.
+/// The whole number that a value stands for, where the target holds it.
 pub fn integer_value<T: Target>(value: &MysqlValue) -> Result<T, Fault>
     ensures { through T.Target.whole result ≡ integer T.Target.half value.now.tpe value.now.raw.now }
 {
@@ -29,8 +29,7 @@ pub fn integer_value<T: Target>(value: &MysqlValue) -> Result<T, Fault>
     T::narrow(whole)
 }
 
-// The same of a number without a sign, which may lie above every i64. (No `i64::try_from`: that no target holds more than an i64
-// is known from `half_range` alone.)
+/// The same of a number without a sign, which may lie above every i64.
 fn unsigned_value<T: Target>(x: u64) -> Result<T, Fault>
     ensures { through T.Target.whole result ≡ in_range T.Target.half (pos x) }
 {

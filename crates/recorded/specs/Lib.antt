@@ -1,2 +1,5 @@
 pub mod Kinds
 pub mod Lines
+pub mod Grammar
+pub mod Refused
+pub mod Rooms

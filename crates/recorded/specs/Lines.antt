@@ -1,7 +1,6 @@
--- The words of a line, and the bytes that a word writes.
-use Rattle.std.specs.Prelude.{◌≡◌, ◌≢◌, ℕ, ◌⊎◌, List, [], ◌∷◌, ◌++◌, All, Some, None, Option, Ok, codes}
+-- The words of a line.
+use Rattle.std.specs.Prelude.{◌≡◌, ◌≢◌, ℕ, List, ◌∷◌, ◌++◌, All, Some, None, Option}
 use Rattle.std.specs.Borrow.{Bor}
-use Rattle.hex.specs.Hex.{decode_of}
 use Rattle.recorded.specs.declared.words.Words.{Words}
 
 abbrev pub text_of : Option (Bor (List ℕ)) → Option (List ℕ)
@@ -22,7 +21,3 @@ pub record Cuts (before : Option (List ℕ)) (word : List ℕ) (after : Option (
   pub was : before ≡ Some line
   pub cut : CutFrom line word after
   pub no_space : All (λ c. c ≢ 32) word
-
--- a word writes bytes in hexadecimal; a dash is none
-abbrev pub Writes : (word bytes : List ℕ) → Type 0
-Writes word bytes = ((word ≡ codes "-") × (bytes ≡ [])) ⊎ (decode_of word ≡ Ok bytes)

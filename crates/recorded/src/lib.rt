@@ -1,4 +1,4 @@
-// Recorded answers: a line each, with a question and what was answered to it.
+//! Recorded answers: a line each, with a question and what was answered to it.
 #![tactic(auto)]
 
 mod buffers;
@@ -7,8 +7,7 @@ mod types;
 mod unread;
 mod words;
 
-pub use buffers::Buffers;
+pub use buffers::{Buffers, Case};
 pub use question::{Kind, Question};
 pub use types::type_numbered;
 pub use unread::Unread;
-pub use words::Words;

@@ -1,33 +1,33 @@
-// What is asked, and of what kind it is.
+//! What is asked, and of what kind it is.
 use mysql::MysqlType;
 
-// A question: what the original was asked.
+/// A question: what the original was asked.
 #[derive(Clone, Copy)]
 pub enum Question<'a> {
-    // the pair that a type asks for
+    /// the pair that a type asks for
     Asks(MysqlType),
-    // the type of a code and flags
+    /// the type of a code and flags
     Type(u8, u32),
-    // the size of a code
+    /// the size of a code
     Size(u8),
-    // whether a type keeps a code; and whether it does, for every code
+    /// whether a type keeps a code; and whether it does, for every code
     Kept(MysqlType, u8),
     Keeps(MysqlType),
-    // whether flags are taken
+    /// whether flags are taken
     Flags(u32),
-    // the kind of an error number
+    /// the kind of an error number
     Kind(u16),
-    // a value as an i32, as an i64, and as a time; no bytes where it is null
+    /// a value as an i32, as an i64, and as a time; no bytes where it is null
     Int(MysqlType, Option<&'a [u8]>),
     Big(MysqlType, Option<&'a [u8]>),
     Time(MysqlType, Option<&'a [u8]>),
-    // the events of a recorded result, opened with these wanted types
+    /// the events of a recorded result, opened with these wanted types
     Tape(&'a [Option<MysqlType>], &'a [u8]),
-    // what the rows of a tray have, opened with these wanted types
+    /// what the rows of a tray have, opened with these wanted types
     Tray(u16, &'a [Option<MysqlType>]),
 }
 
-// The kinds of questions.
+/// The kinds of questions.
 #[derive(Clone, Copy, PartialEq, Eq, Debug)]
 pub enum Kind {
     Asks,
@@ -64,7 +64,7 @@ impl Kind {
         Kind::Tray,
     ];
 
-    // The kind that a word stands for.
+    /// The kind that a word stands for.
     pub fn of_word(word: &str) -> Option<Kind>
         ensures { MatchOption result ((kind : AnyKind) → word.now ≢ word_of kind) (λ kind. word.now ≡ word_of kind) }
     {
@@ -85,7 +85,7 @@ impl Kind {
         })
     }
 
-    // The word that begins the lines of its cases.
+    /// The word that begins the lines of its cases.
     pub fn word(self) -> &'static str
         ensures { result.now ≡ word_of self }
     {

@@ -1,10 +1,10 @@
-// Types by their numbers.
+//! Types by their numbers.
 ghost use Rattle.std.specs.Prelude.{◌≡◌, ◌≤◌, MatchOption};
 ghost use Rattle.mysql.specs.Kept.{row_of};
 
 use mysql::MysqlType;
 
-// The type that has this number, if any.
+/// The type that has this number, if any.
 pub fn type_numbered(number: u8) -> Option<MysqlType>
     ensures { MatchOption result (20 ≤ number) (λ tpe. row_of tpe ≡ number) }
 {

@@ -1,24 +1,24 @@
-// Why a line cannot be read.
+//! Why a line cannot be read.
 use std::alloc::AllocError;
 use std::error::Error;
 use std::fmt;
 
 #[derive(Clone, Copy, PartialEq, Eq, Debug)]
 pub enum Unread {
-    // The input ends in the middle of it.
+    /// The input ends in the middle of it.
     CutShort,
     NotUtf8,
-    // Its first word says of no kind of case that it is one.
+    /// Its first word says of no kind of case that it is one.
     UnknownKind,
-    // Some words are missing.
+    /// Some words are missing.
     TooShort,
-    // A word is no number, or is out of range.
+    /// A word is no number, or is out of range.
     NoNumber,
-    // No type has the number.
+    /// No type has the number.
     NoType,
-    // A word does not write bytes in hexadecimal.
+    /// A word does not write bytes in hexadecimal.
     NoBytes,
-    // There was no memory for it.
+    /// There was no memory for it.
     OutOfMemory,
 }
 
@@ -40,6 +40,11 @@ impl fmt::Display for Unread {
 impl Error for Unread {}
 
 impl From<AllocError> for Unread {
+    ghost use Rattle.std.specs.Prelude.{◌≡◌};
+    ghost use Rattle.recorded.specs.declared.unread.Unread.TheVariants.{OutOfMemory};
+
+    ghost from_gives = { λ _ e. e ≡ OutOfMemory };
+
     fn from(_e: AllocError) -> Unread {
         Unread::OutOfMemory
     }

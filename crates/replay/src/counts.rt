@@ -1,8 +1,8 @@
-// How many lines were what.
+//! How many lines were what.
 use recorded::Kind;
 use std::fmt;
 
-// How many cases of each kind there were, in the kinds' order, and how many other lines.
+/// How many cases of each kind there were, in the kinds' order, and how many other lines.
 #[derive(Clone, Copy, Default)]
 pub struct Counts {
     cases: [u64; 12],
@@ -30,7 +30,7 @@ impl Counts {
         self.differences = self.differences.saturating_add(1);
     }
 
-    // Whether every line could be read, and no case differs.
+    /// Whether every line could be read, and no case differs.
     pub fn is_clean(&self) -> bool {
         self.unread == 0 && self.differences == 0
     }

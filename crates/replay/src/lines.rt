@@ -1,20 +1,21 @@
-// Lines, compared one by one.
-ghost use Rattle.std.specs.Prelude.{◌≡◌, ◌⊎◌, true};
+//! Lines, compared one by one.
+ghost use Rattle.std.specs.Prelude.{◌≡◌, ◌⊎◌, ◌∷◌, ◌++◌, [], true, vec_len, IfOk};
 ghost use Rattle.replay.specs.Same.{LostAfter, StopsAlike, Same};
+ghost use Rattle.replay.specs.Compares.{Told};
 
 use answers::Port;
-use recorded::{Buffers, Kind, Unread, Words};
+use recorded::{Buffers, Kind, Unread};
 use std::alloc::{AllocError, Global};
 
-// How long the arena is that results are opened over.
+/// How long the arena is that results are opened over.
 const ARENA: usize = 65_536;
 
-// What came of a line that could be read.
+/// What came of a line that could be read.
 #[derive(Clone, Copy)]
 pub enum Compared<'a> {
     Comment,
     Same(Kind),
-    // The port answers otherwise; the answer has a space before it.
+    /// The port answers otherwise; the answer has a space before it.
     Different {
         kind: Kind,
         line: &'a str,
@@ -22,7 +23,7 @@ pub enum Compared<'a> {
     },
 }
 
-// What is kept from line to line.
+/// What is kept from line to line.
 #[derive(Drop)]
 pub struct Comparer {
     buffers: Buffers,
@@ -30,15 +31,17 @@ pub struct Comparer {
     arena: Vec<u8>,
 }
 
-// A line without its end.
-fn text_of(line: &[u8]) -> Result<&str, Unread> {
+/// A line without its end.
+fn text_of(line: &[u8]) -> Result<&str, Unread>
+    ensures { IfOk result (λ text. line.now ≡ text.now ++ 10 ∷ []) }
+{
     match line {
         [text @ .., b'\n'] => std::str::from_utf8(text).map_err(|_| Unread::NotUtf8),
         _ => Err(Unread::CutShort),
     }
 }
 
-// Whether an answer begins so, and a figure is lost there.
+/// Whether an answer begins so, and a figure is lost there.
 fn is_lost_after(front: &[u8], answer: &[u8]) -> bool
     ensures { result ≡ true → LostAfter front.now answer.now }
 {
@@ -48,7 +51,7 @@ fn is_lost_after(front: &[u8], answer: &[u8]) -> bool
     }
 }
 
-// Whether words are the recorded ones. After `stop` nothing is compared: a figure is lost there.
+/// Whether words are the recorded ones. After `stop` nothing is compared: a figure is lost there.
 fn are_same(recorded: &[u8], words: &[u8]) -> bool
     ensures { result ≡ true → (words.now ≡ recorded.now) ⊎ StopsAlike recorded.now words.now }
 {
@@ -58,7 +61,7 @@ fn are_same(recorded: &[u8], words: &[u8]) -> bool
     }
 }
 
-// Whether an answer, with a space before it, is the recorded one.
+/// Whether an answer, with a space before it, is the recorded one.
 fn is_same(recorded: &[u8], answer: &[u8]) -> bool
     ensures { result ≡ true → Same recorded.now answer.now }
 {
@@ -72,23 +75,23 @@ impl Comparer {
     pub fn new(heap: Global) -> Result<Comparer, AllocError> {
         Ok(Comparer {
             buffers: Buffers::new(heap),
-            port: Port::new(heap),
+            port: Port::new(heap)?,
             arena: vec![in heap; 0; ARENA]?,
         })
     }
 
-    // Compares a line with what the port answers.
-    pub fn compare<'a>(&'a mut self, line: &'a [u8]) -> Result<Compared<'a>, Unread> {
+    /// Compares a line with what the port answers.
+    pub fn compare<'a>(&'a mut self, line: &'a [u8]) -> Result<Compared<'a>, Unread>
+        ensures { IfOk result (Told (vec_len self.old.arena) line.now) }
+    {
         let line = text_of(line)?;
         if line.starts_with('#') {
             return Ok(Compared::Comment);
         }
-        let mut words = Words::new(line);
-        let kind = Kind::of_word(words.word()?).ok_or(Unread::UnknownKind)?;
-        let question = self.buffers.question(kind, &mut words)?;
-        let recorded = words.rest()?;
-        let answer = self.port.answer(&mut self.arena, question)?;
-        if is_same(recorded.as_bytes(), answer) {
+        let case = self.buffers.line(line)?;
+        let kind = case.kind;
+        let answer = self.port.answer(&mut self.arena, case.question)?;
+        if is_same(case.answer.as_bytes(), answer) {
             return Ok(Compared::Same(kind));
         }
         // It is ASCII.

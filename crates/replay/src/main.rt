@@ -1,5 +1,5 @@
-// Compares recorded answers of the original with this port's: `replay < LINES`. It prints each difference and each line that cannot be read,
-// then how many cases of each kind there were.
+//! Compares recorded answers of the original with this port's: `replay < LINES`. It prints each difference and each line that cannot be read,
+//! then how many cases of each kind there were.
 #![tactic(auto)]
 
 mod counts;
@@ -11,10 +11,10 @@ use lines::{Compared, Comparer};
 use std::io::{BufRead, BufReader};
 use std::process::ExitCode;
 
-// How much is read at once.
+/// How much is read at once.
 const ROOM: usize = 65_536;
 
-// Compares a line, and prints what is wrong with it.
+/// Compares a line, and prints what is wrong with it.
 fn replay_line(
     rt: &HostRuntime,
     comparer: &mut Comparer,
@@ -38,7 +38,7 @@ fn replay_line(
     Ok(())
 }
 
-// Compares all lines of the input, and says how many were what.
+/// Compares all lines of the input, and says how many were what.
 fn replay_all<R: BufRead>(rt: &HostRuntime, input: &mut R) -> anyhow::Result<Counts> {
     let mut comparer = Comparer::new(rt.alloc())?;
     let mut counts = Counts::default();
@@ -53,7 +53,7 @@ fn replay_all<R: BufRead>(rt: &HostRuntime, input: &mut R) -> anyhow::Result<Cou
     Err(anyhow!("the input has no end"))
 }
 
-// Replays standard input, and says whether every line is a comment or a case without a difference.
+/// Replays standard input, and says whether every line is a comment or a case without a difference.
 fn run(rt: &HostRuntime) -> anyhow::Result<bool> {
     let mut input = BufReader::with_capacity(rt.alloc(), ROOM, rt.reader())?;
     let counts = replay_all(rt, &mut input)?;

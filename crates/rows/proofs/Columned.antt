@@ -8,7 +8,7 @@ use Rattle.host.specs.declared.records.BindRecord.{BindRecord}
 use Rattle.host.specs.declared.records.Report.{Report}
 use Rattle.host.specs.Fields.{Field, null, held, HeldAt, FieldAt}
 use Rattle.host.specs.Meanings.{Row, Meaning}
-use Rattle.host.specs.Calls.{no_record as no_bind, truncates, record_of, Reported}
+use Rattle.host.specs.Calls.{no_bind, truncates, record_of, Reported}
 use Rattle.layout.specs.declared.table.ColumnTable.{ColumnTable}
 use Rattle.layout.specs.Columns.{bytes_by, bind_of}
 use Rattle.layout.specs.Tables.{count_of, no_pair, col, binds}
@@ -34,7 +34,7 @@ FieldOf size (held lost bs) = HeldAt size lost bs
 
 field_by_size : (f : Field) (code : ℕ) → FieldAt code f → FieldOf (size_of code) f
 field_by_size null code h = tt
-field_by_size (held lost bs) code h = h
+field_by_size (held lost bs) code h = h.0
 
 -- each code is carried
 carried_at : (carries : ℕ → ℕ → Bool) (i : ℕ) (ps : List Column) → all_carried carries i ps ≡ true → (k : ℕ) → k < length ps → carries (i + k) (get_or ps k no_pair).code ≡ true

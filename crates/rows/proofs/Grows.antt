@@ -17,9 +17,10 @@ use Rattle.layout.proofs.Binding.{same_bind}
 use Rattle.layout.proofs.Wanting.{new_capacity, new_bytes}
 use Rattle.rows.specs.Bounds.{all_carried}
 use Rattle.rows.specs.Standing.{pair_of, pairs_of, report_of, StandsWhole}
-use Rattle.rows.specs.Settling.{column_field, NotLost, RowIn, Half, Whole, Grew}
+use Rattle.rows.specs.Settling.{column_field, NotLost, RowIn, Half, Whole, Enlarged, Grew}
 use Rattle.rows.proofs.Columned.{same_pairs, field_known, held_bytes, FieldOf}
 use Rattle.rows.proofs.Pairs.{bind_error_is}
+use Rattle.rows.proofs.Tried.{enlarged_as}
 
 -- a field of a column that is not marked as lost has lost no figure
 clean_by : (f : Field) (size : Option ℕ) (capacity : ℕ) (report : Report) → FieldOf size f → Reported f capacity report → ((n : ℕ) → size ≡ Some n → report.is_truncated ≡ true → ⊥) → NotLost f
@@ -80,41 +81,13 @@ module _ (m : Meaning) (r : Row) (old : ColumnTable) (a : List ℕ) (row : RowIn
         pub is_granted : granted ≡ true
         is_granted = answer ∙ ap (λ (e : ℕ). eqb e 0) no_error
 
-        host_is : q ≡ record { columns = m.columns; carries = m.carries; coming = m.coming; current = m.current; bound = Some (binds t); error = 0 }
-        host_is =
-            after
-            ∙ ap (λ (e : ℕ). record { columns = n.columns; carries = n.carries; coming = n.coming; current = n.current; bound = bound_list e (binds t) n.bound; error = e }) no_error
-            ∙ ap (λ (x : Meaning). record { columns = x.columns; carries = x.carries; coming = x.coming; current = x.current; bound = Some (binds t); error = 0 }) w.host
-
-        pub grew : Grew m r old a t q b'
-        grew = record {
-          enough = moved.grown.enough;
-          count = count_is;
-          room = places.room ∙ moved.grown.laid.room;
-          pairs = pairs_is;
-          tight = moved.grown.tight;
-          rule_tight = moved.grown.rule_tight;
-          rule_wide = moved.grown.rule_wide;
-          capacities = λ k l. capacity_is k l ∙ new_capacity old new moved.grown k l;
-          reported = w.reported;
-          whole = w.whole;
-          beyond = λ p l. let e = places.end_same in w.beyond p (omega arith) ∙ moved.beyond p (omega arith);
-          host = host_is;
-        }
+        pub grew : Enlarged m old a t q b' → Grew m r old a t q b'
+        grew e = record { enlarged = e; reported = w.reported; whole = w.whole }
 
 -- the same of another table that has these columns
 pub grew_as : (m : Meaning) (r : Row) (old : ColumnTable) (a : List ℕ) (t u : ColumnTable) (q : Meaning) (b : List ℕ) → items u ≡ items t → u.room ≡ t.room → Grew m r old a t q b → Grew m r old a u q b
 grew_as m r old a t u q b e f g = record {
-  enough = g.enough;
-  count = ap length e ∙ g.count;
-  room = f ∙ g.room;
-  pairs = ap (map pair_of) e ∙ g.pairs;
-  tight = g.tight;
-  rule_tight = g.rule_tight;
-  rule_wide = g.rule_wide;
-  capacities = λ k l. ap (λ cs. (get_or cs k no_record).capacity) e ∙ g.capacities k l;
+  enlarged = enlarged_as m old a t u q b e f g.enlarged;
   reported = λ k l. subst (λ cs. Reported (column_field r old k) (get_or cs k no_record).capacity (report_of (get_or cs k no_record))) (sym e) (g.reported k l);
   whole = λ k l. subst (λ cs. StandsWhole (column_field r old k) (get_or cs k no_record) b) (sym e) (g.whole k l);
-  beyond = subst (λ cs. Beyond (total cs) a b) (sym e) g.beyond;
-  host = g.host ∙ ap (λ bs. record { columns = m.columns; carries = m.carries; coming = m.coming; current = m.current; bound = Some bs; error = 0 }) (sym (ap (map bind_of) e));
 }

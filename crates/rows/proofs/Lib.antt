@@ -1,7 +1,11 @@
 pub mod Pairs
+pub mod Asked
 pub mod Parts
 pub mod Columned
 pub mod Wholes
+pub mod Tried
 pub mod Grows
 pub mod Counts
 pub mod Settles
+pub mod Reaching
+pub mod Handles

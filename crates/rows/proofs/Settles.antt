@@ -10,10 +10,10 @@ use Rattle.host.specs.declared.records.BindRecord.{BindRecord}
 use Rattle.host.specs.declared.records.Report.{Report}
 use Rattle.host.specs.Fields.{Field, null, held}
 use Rattle.host.specs.Meanings.{Row, Meaning}
-use Rattle.host.specs.Calls.{Reported, Stands}
+use Rattle.host.specs.Calls.{no_report, Reported, Stands}
 use Rattle.layout.specs.declared.record.ColumnRecord.{ColumnRecord}
 use Rattle.layout.specs.declared.table.ColumnTable.{ColumnTable}
-use Rattle.layout.specs.Columns.{wanted, Fits, Lost}
+use Rattle.layout.specs.Columns.{noted, wanted, Fits, Lost, Over}
 use Rattle.layout.specs.Tables.{items, count_of, no_pair, col, binds, sum_of, need, Noted, SamePlaces, AllFit, NoneLost, LowestLost}
 use Rattle.layout.proofs.Binding.{sized_at}
 use Rattle.layout.proofs.Wanting.{fits_need, fits_wide, fits_sum}
@@ -22,7 +22,7 @@ use Rattle.rows.specs.Bounds.{all_carried, field_at, field_need, row_need, loses
 use Rattle.rows.specs.Dues.{row_fetched}
 use Rattle.rows.specs.Standing.{pair_of, pairs_of, report_of, StandsWhole, wide_sum, capacity_after}
 use Rattle.rows.specs.Settling.{column_field, Current, RowGot, RowIn, Grew, NotGrown, row_answer, Shows, Refuses}
-use Rattle.rows.proofs.Pairs.{pairs_length, pair_at}
+use Rattle.rows.proofs.Pairs.{pairs_length, pair_at, not_both}
 use Rattle.rows.proofs.Columned.{same_pairs, pair_same, FieldOf, field_known, held_bytes}
 use Rattle.rows.proofs.Counts.{counted_is, widened_is, loses_is, need_is, wide_is, wide_at, loses_at, none_lost, lowest_lost}
 
@@ -35,8 +35,11 @@ fits_whole (held lost bs) c a k w fit s =
     (w.0, told, λ j l. s j (omega arith))
 
 module _ (m : Meaning) (r : Row) (t : ColumnTable) (rs : List Report) (a : List ℕ) (got : RowGot m r t rs a) (u : ColumnTable) (written : Noted t rs u) (places : SamePlaces t u) where
+  each : (k : ℕ) → k < count_of t → col u k ≡ noted (col t k) (get_or rs k no_report)
+  each k l = written.each k l (omega (arith, got.as_many))
+
   pub pairs_stay : pairs_of u ≡ pairs_of t
-  pairs_stay = same_pairs u t written.count (λ k l. ap pair_of (written.each k l))
+  pairs_stay = same_pairs u t written.count (λ k l. ap pair_of (each k l))
 
   now_current : Current m r u
   now_current = record {
@@ -53,9 +56,9 @@ module _ (m : Meaning) (r : Row) (t : ColumnTable) (rs : List Report) (a : List 
     current = now_current;
     room = written.room ∙ got.room;
     reported = λ k l. let o : k < count_of t = omega (arith, written.count) in
-        subst (λ (c : ColumnRecord). Reported (field_at r k (pair_of c)) c.capacity (report_of c)) (sym (written.each k o)) (got.reported k o);
+        subst (λ (c : ColumnRecord). Reported (field_at r k (pair_of c)) c.capacity (report_of c)) (sym (each k o)) (got.reported k o);
     stands = λ k l. let o : k < count_of t = omega (arith, written.count) in
-        subst (λ (c : ColumnRecord). Stands (field_at r k (pair_of c)) c.start c.capacity a) (sym (written.each k o)) (got.stands k o);
+        subst (λ (c : ColumnRecord). Stands (field_at r k (pair_of c)) c.start c.capacity a) (sym (each k o)) (got.stands k o);
   }
 
   reported_in : (k : ℕ) → k < count_of u → Reported (column_field r u k) (col u k).capacity (report_of (col u k))
@@ -115,7 +118,7 @@ module _ (m : Meaning) (r : Row) (t : ColumnTable) (rs : List Report) (a : List 
   wide_one k l =
       let o : k < count_of t = omega (arith, written.count) in
       widened_is (column_field r u k) (size_of (col u k).code) (col u k).capacity (report_of (col u k)) (reported_in k l)
-      ∙ ap (wide_at r k) (written.each k o)
+      ∙ ap (wide_at r k) (each k o)
 
   wide_same : sum_of false u ≡ wide_sum r 0 (items t)
   wide_same =
@@ -135,7 +138,7 @@ module _ (m : Meaning) (r : Row) (t : ColumnTable) (rs : List Report) (a : List 
   rule_tight h k l =
       let o : k < count_of u = omega (arith, written.count) in
       counted_is (column_field r u k) (size_of (col u k).code) (col u k).capacity (report_of (col u k)) (reported_in k o)
-      ∙ ap (λ (c : ColumnRecord). field_need (size_of c.code) (field_at r k (pair_of c))) (written.each k l)
+      ∙ ap (λ (c : ColumnRecord). field_need (size_of c.code) (field_at r k (pair_of c))) (each k l)
       ∙ sym (ap (λ (b : Bool). cond b (wide_at r k (col t k)) (field_need (size_of (col t k).code) (column_field r t k))) (lt-leb (wide_sum r 0 (items t)) t.room (omega (arith, wide_same, written.room))))
 
   rule : (tight : Bool) → (tight ≡ true → u.room < sum_of false u) → (tight ≡ false → sum_of false u ≤ u.room) → (k : ℕ) → k < count_of t → wanted tight (col u k) ≡ capacity_after r t k
@@ -157,25 +160,37 @@ module _ (m : Meaning) (r : Row) (t : ColumnTable) (rs : List Report) (a : List 
   lost_due : (i : ℕ) → LowestLost u i → row_answer r t ≡ Err (at_column (refused NumericOverflow) i)
   lost_due i h = ap (λ (o : Option ℕ). row_fetched o (ltb t.room (row_need r 0 (pairs_of t)))) (a_loss i h)
 
-  refuses : (f : Fault) → row_answer r t ≡ Err f → Refuses m r t a f m u a
+  -- the marks are as they were reported
+  marked : (k : ℕ) → k < count_of t → report_of (col u k) ≡ get_or rs k no_report
+  marked k l = ap report_of (each k l)
+
+  -- a null is not longer than its place
+  null_fits : (k : ℕ) → k < count_of u → column_field r t k ≡ null → Over (col u k) → ⊥
+  null_fits k l e over =
+      let o : k < count_of t = omega (arith, written.count) in
+      let told = subst (λ (f : Field). Reported f (col t k).capacity (report_of (col u k))) e (subst (λ (c : ColumnRecord). Reported (column_field r t k) (col t k).capacity (report_of c)) (sym (each k o)) (got.reported k o)) in
+      not_both (col u k).is_null told.0 over.not_null
+
+  refuses : (f : Fault) → row_answer r t ≡ Err f → Refuses m r t rs a f m u a
   refuses f e = record {
     due = e;
     places = places;
     pairs = pairs_stay;
-    reported = λ k l. subst (λ (c : ColumnRecord). Reported (column_field r t k) (col t k).capacity (report_of c)) (sym (written.each k l)) (got.reported k l);
+    reported = λ k l. subst (λ (c : ColumnRecord). Reported (column_field r t k) (col t k).capacity (report_of c)) (sym (each k l)) (got.reported k l);
+    told = marked;
     host = refl;
     same_arena = refl;
   }
 
-  pub refuses_lost : (i : ℕ) (f : Fault) → LowestLost u i → f ≡ at_column (refused NumericOverflow) i → Refuses m r t a f m u a
+  pub refuses_lost : (i : ℕ) (f : Fault) → LowestLost u i → f ≡ at_column (refused NumericOverflow) i → Refuses m r t rs a f m u a
   refuses_lost i f h e = refuses f (lost_due i h ∙ ap Err (sym e))
 
-  pub refuses_long : NoneLost u → (f : Fault) (m' : Meaning) (a' : List ℕ) → NotGrown m u a f m' a' → Refuses m r t a f m' u a'
+  pub refuses_long : NoneLost u → (f : Fault) (m' : Meaning) (a' : List ℕ) → NotGrown m u a f m' a' → Refuses m r t rs a f m' u a'
   refuses_long h f m' a' w =
-      subst (λ (x : Meaning). Refuses m r t a f x u a') (sym w.host)
-      (subst (λ (x : List ℕ). Refuses m r t a f m u x) (sym w.same_arena) (refuses f (no_room_due h w.why ∙ ap Err (sym w.fault))))
+      subst (λ (x : Meaning). Refuses m r t rs a f x u a') (sym w.host)
+      (subst (λ (x : List ℕ). Refuses m r t rs a f m u x) (sym w.same_arena) (refuses f (no_room_due h (w.why (omega (arith, in_row.room))) ∙ ap Err (sym w.fault))))
 
-  pub shows_as_it_is : NoneLost u → AllFit u → Shows m r t a m u a
+  pub shows_as_it_is : NoneLost u → AllFit u → Shows m r t rs a m u a
   shows_as_it_is h fit = record {
     due = shown_due h (fits_need u fit);
     table = record {
@@ -186,6 +201,7 @@ module _ (m : Meaning) (r : Row) (t : ColumnTable) (rs : List Report) (a : List 
       reported = λ k l. let o : k < count_of u = omega (arith, written.count) in
           subst (λ (p : Column). Reported (field_at r k p) (col u k).capacity (report_of (col u k))) (pair_same u t pairs_stay written.count k l) (reported_in k o);
     };
+    nulls = λ k l _. marked k l;
     whole = λ k l. let o : k < count_of u = omega (arith, written.count) in
         fits_whole (column_field r u k) (col u k) a (field_known m r u now_current k o) (reported_in k o) (fit k o) (in_row.stands k o);
     outside = λ p _ _. refl;
@@ -194,21 +210,23 @@ module _ (m : Meaning) (r : Row) (t : ColumnTable) (rs : List Report) (a : List 
         ∙ ap (λ (e : ℕ). record { columns = m.columns; carries = m.carries; coming = m.coming; current = m.current; bound = Some (binds u); error = e }) now_current.no_error;
   }
 
-  pub shows_grown : NoneLost u → (t' : ColumnTable) (m' : Meaning) (a' : List ℕ) → Grew m r u a t' m' a' → Shows m r t a m' t' a'
+  pub shows_grown : NoneLost u → (t' : ColumnTable) (m' : Meaning) (a' : List ℕ) → Grew m r u a t' m' a' → Shows m r t rs a m' t' a'
   shows_grown h t' m' a' w =
-      let same : pairs_of t' ≡ pairs_of t = w.pairs ∙ pairs_stay in
-      let as_many : count_of t' ≡ count_of t = w.count ∙ written.count in
+      let e = w.enlarged in
+      let same : pairs_of t' ≡ pairs_of t = e.pairs ∙ pairs_stay in
+      let as_many : count_of t' ≡ count_of t = e.count ∙ written.count in
       record {
-        due = shown_due h w.enough;
+        due = shown_due h e.enough;
         table = record {
           count = as_many;
-          room = w.room ∙ written.room;
+          room = e.room ∙ written.room;
           pairs = same;
-          capacities = λ k l. w.capacities k (omega (arith, written.count)) ∙ rule w.tight w.rule_tight w.rule_wide k l;
+          capacities = λ k l. e.capacities k (omega (arith, written.count)) ∙ rule e.tight e.rule_tight e.rule_wide k l;
           reported = λ k l. subst (λ (p : Column). Reported (field_at r k p) (col t' k).capacity (report_of (col t' k))) (pair_same u t pairs_stay written.count k l) (w.reported k (omega (arith, written.count)));
         };
+        nulls = λ k l n. let o : k < count_of u = omega (arith, written.count) in e.told k o (null_fits k o n) ∙ marked k l;
         whole = λ k l. let o : k < count_of u = omega (arith, written.count) in
-            subst (λ (p : Column). StandsWhole (field_at r k p) (col t' k) a') (sym (pair_same t' u w.pairs w.count k o)) (w.whole k o);
-        outside = λ p _ l. w.beyond p l;
-        host = w.host;
+            subst (λ (p : Column). StandsWhole (field_at r k p) (col t' k) a') (sym (pair_same t' u e.pairs e.count k o)) (w.whole k o);
+        outside = λ p _ l. e.beyond p l;
+        host = e.host;
       }

@@ -31,6 +31,7 @@ pub record WholeTo (i : ℕ) (m : Meaning) (r : Row) (old new : ColumnTable) (a 
   pub reported : (k : ℕ) → k < i → k < count_of old → Reported (column_field r old k) (col t k).capacity (report_of (col t k))
   pub whole : (k : ℕ) → k < i → k < count_of old → StandsWhole (column_field r old k) (col t k) b
   pub same : (k : ℕ) → i ≤ k → k < count_of old → col t k ≡ col new k
+  pub told : (k : ℕ) → k < count_of old → (Over (col old k) → ⊥) → report_of (col t k) ≡ report_of (col old k)
   pub stands : (k : ℕ) → i ≤ k → k < count_of old → Stands (column_field r old k) (start new k) (kept (col old k)) b
   pub beyond : Beyond (end new) a b
 
@@ -114,6 +115,7 @@ module _ (old new : ColumnTable) (g : Grown old new) (m : Meaning) (r : Row) (a 
     reported = λ k l. absurd (omega arith);
     whole = λ k l. absurd (omega arith);
     same = λ k l n. refl;
+    told = λ k l n. ap report_of (g.laid.each k l);
     stands = λ k l n. half.stands k n;
     beyond = λ p l. refl;
   }
@@ -139,6 +141,7 @@ module _ (old new : ColumnTable) (g : Grown old new) (m : Meaning) (r : Row) (a 
               (λ _. subst (λ (d : ColumnRecord). StandsWhole f d b) (sym is)
               (skipped f (size_of c.code) c (start new i) (wanted g.tight c) b refl (known i l) (half.reported i l) fit (w.stands i (omega arith) l)));
           same = λ k h. w.same k (omega arith);
+          told = w.told;
           stands = λ k h. w.stands k (omega arith);
           beyond = w.beyond;
         }
@@ -210,6 +213,10 @@ module _ (old new : ColumnTable) (g : Grown old new) (m : Meaning) (r : Row) (a 
                 (ap (λ (z : ColumnRecord). z.code) is_now) (ap (λ (z : ColumnRecord). z.start) is_now) (ap (λ (z : ColumnRecord). z.is_null) is_now) (ap (λ (z : ColumnRecord). z.length) is_now)
                 got.reported (w.stands i (omega arith) l) before got.stands);
             same = λ k h o. other k (omega arith) ∙ w.same k (omega arith) o;
+            told = λ k o n. ⊎_elim
+                (λ (e : k ≡ i). absurd (n (subst (λ (x : ℕ). Over (col old x)) (sym e) over)))
+                (λ (e : k ≢ i). ap report_of (other k e) ∙ w.told k o n)
+                (cases_eq k i);
             stands = λ k h o. still_stands (column_field r old k) (start new k) (kept (col old k)) b b'
                 (λ j q. after (start new k + j) (omega (arith, apart new i k (omega arith) (omega (arith, g.laid.count)))))
                 (w.stands k (omega arith) o);
@@ -220,11 +227,15 @@ module _ (old new : ColumnTable) (g : Grown old new) (m : Meaning) (r : Row) (a 
 pub same_start : (new t : ColumnTable) → SamePlaces new t → (i : ℕ) → i < count_of new → start t i ≡ start new i
 same_start new t p i l = ap (λ (x : BindRecord). x.start) (same_bind new t p i l)
 
--- what is missing of a text has room in its new place: x is the column as it was, and y as it is
-pub missing_inside : (old new t : ColumnTable) → Grown old new → SamePlaces new t → (i : ℕ) → i < count_of old → (x y : ColumnRecord) → x ≡ col old i → y ≡ col t i → Over x → y.start + x.length ≤ old.room
-missing_inside old new t g p i l x y is to o =
-    let w = new.within in let m : i < count_of new = omega (arith, g.laid.count) in
-    omega (arith, ap (λ (z : ColumnRecord). z.start) to, same_start new t p i m, inside new i m, new_over old new g i l (subst Over is o), ap (λ (z : ColumnRecord). z.length) is, g.laid.room)
+-- what is missing of a text has room in its new place, and so in the arena: x is the column as it was, and y as it is
+module _ (old new t : ColumnTable) (g : Grown old new) (p : SamePlaces new t) (i : ℕ) (l : i < count_of old) (x y : ColumnRecord) (is : x ≡ col old i) (to : y ≡ col t i) (o : Over x) where
+  pub missing_in_place : y.start + x.length ≤ end new
+  missing_in_place =
+      let m : i < count_of new = omega (arith, g.laid.count) in
+      omega (arith, ap (λ (z : ColumnRecord). z.start) to, same_start new t p i m, inside new i m, new_over old new g i l (subst Over is o), ap (λ (z : ColumnRecord). z.length) is)
+
+  pub missing_inside : y.start + x.length ≤ old.room
+  missing_inside = let w = new.within in omega (arith, missing_in_place, g.laid.room)
 
 -- one column more, whose missing part was fetched to its place in the arena
 module _ (old new : ColumnTable) (g : Grown old new) (m : Meaning) (r : Row) (a : List ℕ) (half : Half m r old new a)

@@ -37,6 +37,11 @@ opening opened arena carries wanted columns =
 
 -- fetches
 
+-- the numbers of what a fetch answers, which are those of MySQL's C API
+abbrev pub fetch_number : Fetch → ℕ
+fetch_number fetch.Row = 0
+fetch_number fetch.End = 100
+
 -- a row is shown, unless it loses a figure (10, at the lowest such column) or else needs more than the arena has (11)
 abbrev pub row_fetched : Option ℕ → Bool → Result Fetch Fault
 row_fetched (Some k) too_long = Err (at_column (refused NumericOverflow) k)
@@ -52,26 +57,26 @@ fetched pairs arena (row r ∷ es) = row_fetched (first_loss r 0 pairs) (nat_lt 
 -- readings
 
 -- what is shown of a column: bytes, with their type
-pub record Shown : Type 0 where
+pub record TypedBytes : Type 0 where
   pub tpe : MysqlType
   pub bytes : List ℕ
 
 -- bytes with the type of a bound column, or 12 where its code and flags have none
-abbrev pub typed : ℕ → List ℕ → Result MysqlType Fault → Result (Option Shown) Fault
+abbrev pub typed : ℕ → List ℕ → Result MysqlType Fault → Result (Option TypedBytes) Fault
 typed k bs (Ok t) = Ok (Some (record { tpe = t; bytes = bs }))
 typed k bs (Err f) = Err (at_column f k)
 
 -- a null is none; else all bytes of the field, with the type
-abbrev pub field_shown : ℕ → Column → Field → Result (Option Shown) Fault
+abbrev pub field_shown : ℕ → Column → Field → Result (Option TypedBytes) Fault
 field_shown k c null = Ok None
 field_shown k c (held lost bs) = typed k bs (type_of c.code c.flags)
 
 -- 4 past the last column, 5 where no row is shown, else what the row has
-abbrev pub row_shown : List Column → Option Row → ℕ → Result (Option Shown) Fault
+abbrev pub row_shown : List Column → Option Row → ℕ → Result (Option TypedBytes) Fault
 row_shown pairs None k = Err (refused NoCurrentRow)
 row_shown pairs (Some r) k = field_shown k (slice_index_or pairs k no_pair) (field_at r k (slice_index_or pairs k no_pair))
 
-abbrev pub read : List Column → Option Row → ℕ → Result (Option Shown) Fault
+abbrev pub read : List Column → Option Row → ℕ → Result (Option TypedBytes) Fault
 read pairs shown k = cond (nat_lt k (length pairs)) (row_shown pairs shown k) (Err (refused NoSuchColumn))
 
 -- a typed reading of what is shown: 13 for a null, the reading's own fault with the column put in, or the value
@@ -79,7 +84,7 @@ abbrev pub faulted : {X : Type 0} → ℕ → Result X Fault → Result X Fault
 faulted k (Ok x) = Ok x
 faulted k (Err f) = Err (at_column f k)
 
-abbrev pub read_as : {X : Type 0} → (MysqlType → List ℕ → Result X Fault) → ℕ → Result (Option Shown) Fault → Result X Fault
+abbrev pub read_as : {X : Type 0} → (MysqlType → List ℕ → Result X Fault) → ℕ → Result (Option TypedBytes) Fault → Result X Fault
 read_as reads k (Ok None) = Err (at_column (refused UnexpectedNull) k)
 read_as reads k (Ok (Some v)) = faulted k (reads v.tpe v.bytes)
 read_as reads k (Err f) = Err f

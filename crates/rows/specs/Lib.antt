@@ -2,3 +2,4 @@ pub mod Bounds
 pub mod Dues
 pub mod Standing
 pub mod Settling
+pub mod Reach

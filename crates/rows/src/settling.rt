@@ -2,8 +2,10 @@
 ghost use Rattle.std.specs.Prelude.{◌≡◌, ℕ, ◌<◌, ◌≤◌, length, IfOk, MatchOption, OnOk, slice_index};
 ghost use Rattle.host.specs.declared.records.BindRecord.{BindRecord};
 ghost use Rattle.host.specs.Meanings.{Row};
-ghost use Rattle.layout.specs.Tables.{AllFit, NoneLost, LowestLost, Grown, SamePlaces};
-ghost use Rattle.rows.specs.Settling.{RowGot, Settled, RowIn, RoomMade, Half, WholeAs, PartInto};
+ghost use Rattle.layout.specs.Tables.{AllFit, NoneLost, LowestLost, Grown, SamePlaces, end};
+ghost use Rattle.layout.specs.Moves.{Beyond};
+ghost use Rattle.host.specs.Calls.{with_error};
+ghost use Rattle.rows.specs.Settling.{Handled, RowGot, Settled, RoomTried, RowIn, RoomMade, MissingAsked, Half, WholeAs, PartAsked, PartInto};
 
 use crate::spare::Spare;
 use host::{Host, Report};
@@ -20,7 +22,8 @@ pub fn populate_dynamic_buffers<H: Host>(
     spare: &mut Spare,
 ) -> Result<(), Fault>
     ensures fit { OnOk result (AllFit table.new) }
-    ensures came { (row : Row) → RowGot (H.Host.meaning host.old) row table.old reports.now arena.old → Settled (H.Host.meaning host.old) row table.old arena.old result (H.Host.meaning host.new) table.new arena.new }
+    ensures handled { Handled (H.Host.meaning host.old) table.old reports.now arena.old result (H.Host.meaning host.new) table.new arena.new }
+    ensures came { (row : Row) → RowGot (H.Host.meaning host.old) row table.old reports.now arena.old → Settled (H.Host.meaning host.old) row table.old reports.now arena.old result (H.Host.meaning host.new) table.new arena.new }
 {
     // where each column is plain, no figure is lost and every value stands whole in its place
     if table.note_all(reports) {
@@ -45,6 +48,7 @@ fn make_room<H: Host>(
     spare: &mut Spare,
 ) -> Result<(), Fault>
     ensures fit { OnOk result (AllFit table.new) }
+    ensures tried { RoomTried (H.Host.meaning host.old) table.old arena.old result (H.Host.meaning host.new) table.new arena.new }
     ensures came { (row : Row) → RowIn (H.Host.meaning host.old) row table.old arena.old → NoneLost table.old → RoomMade (H.Host.meaning host.old) row table.old arena.old result (H.Host.meaning host.new) table.new arena.new }
 {
     table
@@ -76,6 +80,9 @@ fn fetch_missing<H: Host>(
     requires grown { Grown old.now new.old }
     requires room { old.now.room ≤ length arena.old }
     ensures places { SamePlaces new.old new.new }
+    ensures host { H.Host.meaning host.new ≡ with_error (H.Host.meaning host.new).error (H.Host.meaning host.old) }
+    ensures beyond { Beyond (end new.old) arena.old arena.new }
+    ensures asked { MissingAsked result (H.Host.meaning host.old) old.now new.old (H.Host.meaning host.new) new.new }
     ensures came { (row : Row) → Half (H.Host.meaning host.old) row old.now new.old arena.old → WholeAs result (H.Host.meaning host.old) row old.now new.old arena.old (H.Host.meaning host.new) new.new arena.new }
 {
     for (i, column) in old.columns().iter().enumerate() {
@@ -96,7 +103,9 @@ fn fetch_part<H: Host>(
     offset: usize,
     part: &mut [u8],
 ) -> Result<Report, Fault>
-    ensures { (row : Row) (b : BindRecord) → PartInto (H.Host.meaning host.old) row b column offset result (H.Host.meaning host.new) 0 (length part.new) part.new }
+    ensures host { H.Host.meaning host.new ≡ with_error (H.Host.meaning host.new).error (H.Host.meaning host.old) }
+    ensures asked { PartAsked (H.Host.meaning host.old) column result (H.Host.meaning host.new) }
+    ensures came { (row : Row) (b : BindRecord) → PartInto (H.Host.meaning host.old) row b column offset result (H.Host.meaning host.new) 0 (length part.new) part.new }
 {
     let mut report = Report::default();
     if host.fetch_column(column, offset, part, &mut report) {

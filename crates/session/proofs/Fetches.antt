@@ -9,7 +9,7 @@ use Rattle.rows.specs.declared.spare.Spare.{Spare}
 use Rattle.host.specs.declared.records.Fetched.{Fetched}
 use Rattle.host.specs.declared.records.Fetched.TheVariants as fetched_as
 use Rattle.host.specs.Meanings.{Row, Event, row, failure, Meaning, RowFits, CurrentFits, Formed}
-use Rattle.host.specs.Calls.{no_record as no_bind, no_report, allows, InPlace, Untouched, Reported, Stands, field_of, NotAllowed, FailureCame, RowCame, Fetches}
+use Rattle.host.specs.Calls.{no_bind, no_report, allows, InPlace, Untouched, Reported, Stands, field_of, NotAllowed, FailureCame, RowCame, Fetches}
 use Rattle.layout.specs.declared.table.ColumnTable.{ColumnTable}
 use Rattle.layout.specs.Columns.{bind_of}
 use Rattle.layout.specs.Tables.{count_of, col, end, binds}
@@ -19,9 +19,9 @@ use Rattle.rows.specs.declared.answers.Fetch.{Fetch}
 use Rattle.rows.proofs.Pairs.{not_both}
 use Rattle.session.specs.declared.state.Session.{Session}
 use Rattle.session.specs.declared.state.Opened.{Opened}
-use Rattle.rows.specs.Bounds.{all_carried, row_need, first_loss}
+use Rattle.rows.specs.Bounds.{all_carried, field_at, row_need, first_loss}
 use Rattle.rows.specs.Dues.{row_fetched, fetched}
-use Rattle.rows.specs.Standing.{pairs_of}
+use Rattle.rows.specs.Standing.{pair_of, pairs_of}
 use Rattle.session.specs.Sessions.{table_of, session_of, is_open, is_shown, Sound, passes, fetch_answer, AfterFetch, RowRefused, RowMet}
 use Rattle.rows.specs.Settling.{RowGot, row_answer, Shows, Refuses}
 use Rattle.session.specs.Settled.{SettledIn}
@@ -115,32 +115,33 @@ module _ {H : Type 0} (m : Meaning) (s : Session H) (sound : Sound m s) (a : Lis
     due_is : (x : Result Fetch Fault) → row_answer w.fields t ≡ x → fetched (pairs_of t) (length a) (row w.fields ∷ w.rest) ≡ x
     due_is x e = ap (λ (n : ℕ). row_fetched (first_loss w.fields 0 (pairs_of t)) (ltb n (row_need w.fields 0 (pairs_of t)))) long ∙ e
 
-    module _ (u : ColumnTable) (o : Opened) (h : H) (rs'' : List Report) (sp'' : Spare) (m'' : Meaning) (a'' : List ℕ) (e1 : u ≡ t) where
+    module _ (u : ColumnTable) (o : Opened) (h : H) (rs'' : List Report) (sp'' : Spare) (m'' : Meaning) (a'' : List ℕ) (e1 : u ≡ t) (kept : (k : ℕ) → k < count_of t → get_or rs'' k no_report ≡ get_or rs' k no_report) where
       abbrev s' : Session H
       s' = session_of h o rs'' sp''
 
-      pub row_answered : (x : Result Fetch Fault) → SettledIn m' w.fields u a' x m'' o a'' → x ≡ fetch_answer s a m.coming
+      pub row_answered : (x : Result Fetch Fault) → SettledIn m' w.fields u rs' a' x m'' o a'' → x ≡ fetch_answer s a m.coming
       row_answered (Ok x) z = answers (row w.fields ∷ w.rest) (Ok x) (due_is (Ok x) (ap (row_answer w.fields) (sym e1) ∙ z.1.settled.due ∙ ap Ok (sym z.0))) w.next
       row_answered (Err f) z = answers (row w.fields ∷ w.rest) (Err f) (due_is (Err f) (ap (row_answer w.fields) (sym e1) ∙ z.settled.due)) w.next
 
       outside_first : Beyond (end t) a a'
       outside_first = past_end t w.places a a' places_are w.untouched
 
-      met : (x : Fetch) → SettledIn m' w.fields u a' (Ok x) m'' o a'' → RowMet w.fields w.rest m m'' s s' a a''
+      met : (x : Fetch) → SettledIn m' w.fields u rs' a' (Ok x) m'' o a'' → RowMet w.fields w.rest m m'' s s' a a''
       met x z =
-          let y = subst (λ (v : ColumnTable). Shows m' w.fields v a' m'' (table_of s') a'') e1 z.1.settled in
+          let y = subst (λ (v : ColumnTable). Shows m' w.fields v rs' a' m'' (table_of s') a'') e1 z.1.settled in
           record {
             host = y.host ∙ ap (λ (q : Meaning). record { columns = q.columns; carries = q.carries; coming = q.coming; current = q.current; bound = Some (binds (table_of s')); error = 0 }) w.after;
             opened = refl;
             shown = z.1.shown;
             table = y.table;
+            nulls = λ k l e. y.nulls k l e ∙ sym (kept k l);
             whole = y.whole;
             outside = λ p l l'. y.outside p l l' ∙ outside_first p l;
           }
 
-      not_met : (f : Fault) → SettledIn m' w.fields u a' (Err f) m'' o a'' → RowRefused w.fields w.rest m m'' s s' a a''
+      not_met : (f : Fault) → SettledIn m' w.fields u rs' a' (Err f) m'' o a'' → RowRefused w.fields w.rest m m'' s s' a a''
       not_met f z =
-          let y = subst (λ (v : ColumnTable). Refuses m' w.fields v a' f m'' (table_of s') a'') e1 z.settled in
+          let y = subst (λ (v : ColumnTable). Refuses m' w.fields v rs' a' f m'' (table_of s') a'') e1 z.settled in
           record {
             host = y.host ∙ w.after;
             opened = refl;
@@ -148,9 +149,11 @@ module _ {H : Type 0} (m : Meaning) (s : Session H) (sound : Sound m s) (a : Lis
             places = y.places;
             pairs = y.pairs;
             reported = y.reported;
+            told = λ k l. y.told k l ∙ sym (kept k l);
+            stands = λ k l. subst (λ (b : List ℕ). Stands (field_at w.fields k (pair_of (col t k))) (col t k).start (col t k).capacity b) (sym y.same_arena) (row_got.stands k l);
             outside = λ p l. ap (λ (b : List ℕ). get_or b p 0) y.same_arena ∙ outside_first p l;
           }
 
-      pub row_after : (x : Result Fetch Fault) → SettledIn m' w.fields u a' x m'' o a'' → AfterFetch m.coming x m m'' s s' a a''
+      pub row_after : (x : Result Fetch Fault) → SettledIn m' w.fields u rs' a' x m'' o a'' → AfterFetch m.coming x m m'' s s' a a''
       row_after (Ok x) z = subst (λ (es : List Event). AfterFetch es (Ok x) m m'' s s' a a'') (sym w.next) (met x z)
       row_after (Err f) z = subst (λ (es : List Event). AfterFetch es (Err f) m m'' s s' a a'') (sym w.next) (not_met f z)

@@ -16,10 +16,10 @@ use Rattle.rows.specs.Bounds.{bound, all_carried, field_at}
 use Rattle.session.proofs.Binds.{bound_long}
 use Rattle.rows.specs.Dues.{most_bytes, placed, opening}
 use Rattle.rows.specs.Standing.{pair_of, StandsWhole}
-use Rattle.session.specs.Sessions.{table_of, is_shown, Sound, Holds, shown_row, Opened, NotOpened, AfterOpening}
+use Rattle.session.specs.Sessions.{table_of, is_shown, Sound, Holds, shown_row, OpeningGranted, OpeningRefused, AfterOpening}
 
 module _ {H : Type 0} (m m' : Meaning) (s s' : Session H) (a a' : List ℕ) where
-  refused_sound : (f : Fault) → NotOpened f m m' s s' a a' → Sound m s → Sound m' s'
+  refused_sound : (f : Fault) → OpeningRefused f m m' s s' a a' → Sound m s → Sound m' s'
   refused_sound f n h = record {
     places = λ o. rw (n.host, n.table) (h.places (sym n.opened ∙ o));
     as_many = λ o. rw (n.host, n.table) (h.as_many (sym n.opened ∙ o));
@@ -27,7 +27,7 @@ module _ {H : Type 0} (m m' : Meaning) (s s' : Session H) (a a' : List ℕ) wher
     a_row = λ o e. h.a_row (sym n.shown ∙ o) (sym (ap (λ (x : Meaning). x.current) n.host) ∙ e);
   }
 
-  refused_holds : (f : Fault) → NotOpened f m m' s s' a a' → Holds m s a → Holds m' s' a'
+  refused_holds : (f : Fault) → OpeningRefused f m m' s s' a a' → Holds m s a → Holds m' s' a'
   refused_holds f n h = record {
     whole = λ r e k l.
         let same : shown_row m' s' ≡ shown_row m s = rw (n.shown, n.host) refl in
@@ -35,7 +35,7 @@ module _ {H : Type 0} (m m' : Meaning) (s s' : Session H) (a a' : List ℕ) wher
         (subst (λ (t : ColumnTable). k < count_of t → StandsWhole (field_at r k (pair_of (col t k))) (col t k) a) (sym n.table) (h.whole r (sym same ∙ e) k) l);
   }
 
-  granted_sound : (pairs : List Column) → Opened m m' s s' pairs a a' → all_carried m.carries 0 pairs ≡ true → length pairs ≡ length m.columns → Sound m' s'
+  granted_sound : (pairs : List Column) → OpeningGranted m m' s s' pairs a a' → all_carried m.carries 0 pairs ≡ true → length pairs ≡ length m.columns → Sound m' s'
   granted_sound pairs o c l = record {
     places = λ _. rw o.host refl;
     as_many = λ _. rw o.host (o.table.as_many ∙ l);
@@ -43,7 +43,7 @@ module _ {H : Type 0} (m m' : Meaning) (s s' : Session H) (a a' : List ℕ) wher
     a_row = λ p e. not_both (is_shown s') p o.no_row;
   }
 
-  granted_holds : (pairs : List Column) → Opened m m' s s' pairs a a' → Holds m' s' a'
+  granted_holds : (pairs : List Column) → OpeningGranted m m' s s' pairs a a' → Holds m' s' a'
   granted_holds pairs o = record { whole = λ r e k l. let q : None ≡ Some r = sym (ap (λ (b : Bool). cond b m'.current None) o.no_row) ∙ e in cc }
 
   pub still_holds : (r : Result Slip Fault) (x : Result (List Column) Fault) → AfterOpening r x m m' s s' a a' → Holds m s a → Holds m' s' a'

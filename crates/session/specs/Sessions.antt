@@ -1,5 +1,5 @@
 -- A session and its host: how they agree, and what each call leaves.
-use Rattle.std.specs.Prelude.{◌≡◌, ℕ, ◌<◌, ◌≤◌, Bool, true, false, cond, ◌&&◌, List, [], ◌∷◌, length, take, drop, Some, None, Ok, Err, Option, Result, ◌==◌, ◌≢◌, nat_lt, is_some, slice_index}
+use Rattle.std.specs.Prelude.{◌≡◌, ℕ, ◌<◌, ◌≤◌, Bool, true, false, cond, ◌&&◌, List, [], ◌∷◌, length, take, drop, Some, None, Ok, Err, Option, Result, ◌==◌, ◌≢◌, nat_lt, is_some, slice_index, slice_index_or}
 use Rattle.mysql.specs.declared.backend.MysqlType.{MysqlType}
 use Rattle.mysql.specs.declared.bind.Column.{Column}
 use Rattle.mysql.specs.declared.fault.Fault.{Fault}
@@ -9,7 +9,8 @@ use Rattle.mysql.specs.Refusals.{number_of}
 use Rattle.mysql.specs.Types.{type_of}
 use Rattle.host.specs.declared.records.Report.{Report}
 use Rattle.host.specs.Meanings.{Row, Event, row, failure, Meaning}
-use Rattle.host.specs.Calls.{Reported, with_error}
+use Rattle.host.specs.Fields.{null}
+use Rattle.host.specs.Calls.{no_report, Reported, Stands, with_error}
 use Rattle.layout.specs.declared.record.ColumnRecord.{ColumnRecord}
 use Rattle.layout.specs.declared.table.ColumnTable.{ColumnTable}
 use Rattle.layout.specs.Columns.{bytes_of}
@@ -24,7 +25,7 @@ use Rattle.session.specs.declared.state.Opened as state
 use Rattle.session.specs.Stages.{shown, table}
 use Rattle.session.specs.declared.state.Value.{Value}
 use Rattle.rows.specs.Bounds.{all_carried, field_at}
-use Rattle.rows.specs.Dues.{Shown, typed, placed, opening, fetched, read}
+use Rattle.rows.specs.Dues.{TypedBytes, typed, placed, opening, fetched, read}
 
 module _ {H : Type 0} where
   -- an opening was granted; and the last fetch showed a row
@@ -78,13 +79,13 @@ pub record NotPlaced (m m' : Meaning) (pairs : List Column) (f : Fault) (a a' : 
   pub host : m' ≡ with_error (error_after f m.error) m
   pub same_arena : a' ≡ a
 
-abbrev pub PlacedAs : {X : Type 0} → Result X Fault → (m m' : Meaning) → List Column → ColumnTable → (a a' : List ℕ) → Type 0
-PlacedAs (Ok x) m m' pairs t a a' = Placed m m' pairs t a a'
-PlacedAs (Err f) m m' pairs t a a' = NotPlaced m m' pairs f a a'
+abbrev pub Places : {X : Type 0} → Result X Fault → (m m' : Meaning) → List Column → ColumnTable → (a a' : List ℕ) → Type 0
+Places (Ok x) m m' pairs t a a' = Placed m m' pairs t a a'
+Places (Err f) m m' pairs t a a' = NotPlaced m m' pairs f a a'
 
 module _ {H : Type 0} where
   -- granted: the table is that of an opening, the host is bound to its places, these are zeroed, and no other byte changes
-  pub record Opened (m m' : Meaning) (s s' : Session H) (pairs : List Column) (a a' : List ℕ) : Type 0 where
+  pub record OpeningGranted (m m' : Meaning) (s s' : Session H) (pairs : List Column) (a a' : List ℕ) : Type 0 where
     pub table : OpeningTable pairs (length a) (table_of s')
     pub bound_with : pairs_of (table_of s') ≡ pairs
     pub host : m' ≡ record { columns = m.columns; carries = m.carries; coming = m.coming; current = m.current; bound = Some (binds (table_of s')); error = 0 }
@@ -94,7 +95,7 @@ module _ {H : Type 0} where
     pub others : Beyond (end (table_of s')) a a'
 
   -- refused: the arena and the session are as they were; where the host refused the bind, its error number is all that changes
-  pub record NotOpened (f : Fault) (m m' : Meaning) (s s' : Session H) (a a' : List ℕ) : Type 0 where
+  pub record OpeningRefused (f : Fault) (m m' : Meaning) (s s' : Session H) (a a' : List ℕ) : Type 0 where
     pub opened : is_open s' ≡ is_open s
     pub shown : is_shown s' ≡ is_shown s
     pub table : table_of s' ≡ table_of s
@@ -102,10 +103,10 @@ module _ {H : Type 0} where
     pub same_arena : a' ≡ a
 
   abbrev pub AfterOpening : Result Slip Fault → Result (List Column) Fault → (m m' : Meaning) (s s' : Session H) (a a' : List ℕ) → Type 0
-  AfterOpening (Ok slip) (Ok pairs) m m' s s' a a' = Opened m m' s s' pairs a a'
+  AfterOpening (Ok slip) (Ok pairs) m m' s s' a a' = OpeningGranted m m' s s' pairs a a'
   AfterOpening (Ok slip) (Err f) m m' s s' a a' = ⊥
   AfterOpening (Err f) (Ok pairs) m m' s s' a a' = ⊥
-  AfterOpening (Err f) (Err g) m m' s s' a a' = (f ≡ g) × NotOpened f m m' s s' a a'
+  AfterOpening (Err f) (Err g) m m' s s' a a' = (f ≡ g) × OpeningRefused f m m' s s' a a'
 
 -- fetches
 
@@ -142,7 +143,8 @@ module _ {H : Type 0} where
     pub table : table_of s' ≡ table_of s
     pub outside : Beyond (end (table_of s)) a a'
 
-  -- a row was next, and is refused: the places and the bind list stay. Free: the bytes of the places, and the length of a null.
+  -- A row was next, and is refused: the places and the bind list stay, each field stands in its place as far as that goes, and the marks are
+  -- the reports that the session has of the host. Free: the other bytes of the places, and what the host reports as the length of a null.
   pub record RowRefused (r : Row) (rest : List Event) (m m' : Meaning) (s s' : Session H) (a a' : List ℕ) : Type 0 where
     pub host : m' ≡ host_after m rest (Some r) 0
     pub opened : is_open s' ≡ true
@@ -150,15 +152,18 @@ module _ {H : Type 0} where
     pub places : SamePlaces (table_of s) (table_of s')
     pub pairs : pairs_of (table_of s') ≡ pairs_of (table_of s)
     pub reported : (k : ℕ) → k < count_of (table_of s) → Reported (field_at r k (pair_of (col (table_of s) k))) (col (table_of s) k).capacity (report_of (col (table_of s') k))
+    pub told : (k : ℕ) → k < count_of (table_of s) → report_of (col (table_of s') k) ≡ slice_index_or s'.reports k no_report
+    pub stands : (k : ℕ) → k < count_of (table_of s) → Stands (field_at r k (pair_of (col (table_of s) k))) (col (table_of s) k).start (col (table_of s) k).capacity a'
     pub outside : Beyond (end (table_of s)) a a'
 
-  -- A row was next, and is shown: it stands whole in the new places, to which the host is bound. Free: the other bytes of the old and the
-  -- new places, and the length of a null.
+  -- A row was next, and is shown: it stands whole in the new places, to which the host is bound; a null's mark is the report that the session
+  -- has of the host. Free: the other bytes of the old and the new places, and what the host reports as the length of a null.
   pub record RowMet (r : Row) (rest : List Event) (m m' : Meaning) (s s' : Session H) (a a' : List ℕ) : Type 0 where
     pub host : m' ≡ record { columns = m.columns; carries = m.carries; coming = rest; current = Some r; bound = Some (binds (table_of s')); error = 0 }
     pub opened : is_open s' ≡ true
     pub shown : is_shown s' ≡ true
     pub table : Regrown r (table_of s) (table_of s')
+    pub nulls : (k : ℕ) → k < count_of (table_of s) → field_at r k (pair_of (col (table_of s) k)) ≡ null → report_of (col (table_of s') k) ≡ slice_index_or s'.reports k no_report
     pub whole : (k : ℕ) → k < count_of (table_of s) → StandsWhole (field_at r k (pair_of (col (table_of s') k))) (col (table_of s') k) a'
     pub outside : (p : ℕ) → end (table_of s) ≤ p → end (table_of s') ≤ p → slice_index a' p ≡ slice_index a p
 
@@ -177,24 +182,24 @@ module _ {H : Type 0} where
 -- readings
 
 -- the bytes that stand for a column's value in its place, with the type of its code and flags
-abbrev pub record_shown : ℕ → ColumnRecord → List ℕ → Result (Option Shown) Fault
+abbrev pub record_shown : ℕ → ColumnRecord → List ℕ → Result (Option TypedBytes) Fault
 record_shown k c a = cond c.is_null (Ok None) (typed k (take (bytes_of c) (drop c.start a)) (type_of c.code c.flags))
 
 -- what is read where the checks pass, by whether a row is shown, the table and the arena: 4, 5, a null, 12, or bytes
-abbrev pub looked : Bool → ColumnTable → List ℕ → ℕ → Result (Option Shown) Fault
+abbrev pub looked : Bool → ColumnTable → List ℕ → ℕ → Result (Option TypedBytes) Fault
 looked shown t a k = cond (nat_lt k (count_of t)) (cond shown (record_shown k (col t k) a) (Err (refused NoCurrentRow))) (Err (refused NoSuchColumn))
 
 module _ {H : Type 0} where
   -- a reading: 1, 3, or the above
-  abbrev pub reading : Session H → List ℕ → ℕ → Result (Option Shown) Fault
+  abbrev pub reading : Session H → List ℕ → ℕ → Result (Option TypedBytes) Fault
   reading s a k = past_checks s (length a) (looked (is_shown s) (table_of s) a k)
 
 -- what a value stands for
-abbrev pub viewed : Option Value → Option Shown
+abbrev pub viewed : Option Value → Option TypedBytes
 viewed None = None
 viewed (Some v) = Some (record { tpe = v.value.tpe; bytes = v.value.raw.now })
 
-abbrev pub shown_by : Result (Option Value) Fault → Result (Option Shown) Fault
+abbrev pub shown_by : Result (Option Value) Fault → Result (Option TypedBytes) Fault
 shown_by (Ok v) = Ok (viewed v)
 shown_by (Err f) = Err f
 
@@ -216,5 +221,5 @@ module _ {H : Type 0} (means : H → Meaning) where
   abbrev pub fetch_due : Session H → List ℕ → Result Fetch Fault
   fetch_due s a = fetch_answer s a (means s.host).coming
 
-  abbrev pub row_due : Session H → ℕ → Result (Option Shown) Fault
+  abbrev pub row_due : Session H → ℕ → Result (Option TypedBytes) Fault
   row_due s k = read (pairs_of (table_of s)) (shown_row (means s.host) s) k

@@ -3,7 +3,7 @@ ghost use Rattle.std.specs.Prelude.{◌≡◌, true, false};
 ghost use Rattle.host.specs.Meanings.{Row};
 ghost use Rattle.rows.specs.Settling.{RowGot};
 ghost use Rattle.session.specs.Settled.{SettledIn};
-ghost use Rattle.session.specs.Sessions.{IsSound, HoldsRow, passes, fetch_due, NotFetched, Fetches, session_of};
+ghost use Rattle.session.specs.Sessions.{is_open, IsSound, HoldsRow, passes, fetch_due, NotFetched, Fetches, session_of};
 
 use crate::state::{Opened, Session};
 use host::{Fetched, Host, MOST_COLUMNS, Report};
@@ -14,7 +14,9 @@ impl<H: Host> Session<H> {
     /// Takes the next event of the host off: a row is shown, or refused; a failure is refused; at the end there is none.
     pub fn fetch(&mut self, arena: &mut [u8]) -> Result<Fetch, Fault>
         ensures answer { IsSound H.Host.meaning self.old → result ≡ fetch_due H.Host.meaning self.old arena.old }
+        ensures refused { passes self.old arena.old ≡ false → result ≡ fetch_due H.Host.meaning self.old arena.old }
         ensures unchecked { passes self.old arena.old ≡ false → NotFetched self.old self.new arena.old arena.new }
+        ensures opened { is_open self.new ≡ is_open self.old }
         ensures after { IsSound H.Host.meaning self.old → passes self.old arena.old ≡ true → Fetches H.Host.meaning result self.old self.new arena.old arena.new }
         ensures sound { IsSound H.Host.meaning self.old → IsSound H.Host.meaning self.new }
         ensures holds { IsSound H.Host.meaning self.old → HoldsRow H.Host.meaning self.old arena.old → HoldsRow H.Host.meaning self.new arena.new }
@@ -56,7 +58,7 @@ impl Opened {
         spare: &mut Spare,
     ) -> Result<Fetch, Fault>
         requires { self.old.shown ≡ false }
-        ensures { (row : Row) → RowGot (H.Host.meaning host.old) row self.old.table reports.now arena.old → SettledIn (H.Host.meaning host.old) row self.old.table arena.old result (H.Host.meaning host.new) self.new arena.new }
+        ensures { (row : Row) → RowGot (H.Host.meaning host.old) row self.old.table reports.now arena.old → SettledIn (H.Host.meaning host.old) row self.old.table reports.now arena.old result (H.Host.meaning host.new) self.new arena.new }
     {
         populate_dynamic_buffers(host, &mut self.table, arena, reports, spare)?;
         self.shown = true;

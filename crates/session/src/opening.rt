@@ -3,7 +3,7 @@ ghost use Rattle.std.specs.Prelude.{◌≡◌, ◌≤◌, false, length, slice_i
 ghost use Rattle.mysql.specs.Taken.{taken_pair};
 ghost use Rattle.host.specs.Meanings.{no_column};
 ghost use Rattle.rows.specs.Bounds.{wanted_of, bound};
-ghost use Rattle.session.specs.Sessions.{is_open, IsSound, HoldsRow, PlacedAs, Opens};
+ghost use Rattle.session.specs.Sessions.{is_open, IsSound, HoldsRow, Places, Opens};
 
 use crate::answers::Slip;
 use crate::state::{Opened, Session};
@@ -46,7 +46,7 @@ fn place_columns<H: Host>(
     arena: &mut [u8],
     spare: &mut Spare,
 ) -> Result<(), Fault>
-    ensures { length pairs.now ≡ length (H.Host.meaning host.old).columns → length arena.old ≤ 65536 → PlacedAs result (H.Host.meaning host.old) (H.Host.meaning host.new) pairs.now spare.new.table arena.old arena.new }
+    ensures { length pairs.now ≡ length (H.Host.meaning host.old).columns → length arena.old ≤ 65536 → Places result (H.Host.meaning host.old) (H.Host.meaning host.new) pairs.now spare.new.table arena.old arena.new }
 {
     spare
         .table

@@ -22,9 +22,9 @@ pub(crate) struct Opened {
 pub struct Session<H> {
     pub(crate) host: H,
     pub(crate) opened: Option<Opened>,
-    // where the host reports what came of a row
+    /// where the host reports what came of a row
     pub(crate) reports: [Report; MOST_COLUMNS],
-    // where new places are laid out
+    /// where new places are laid out
     pub(crate) spare: Spare,
 }
 

@@ -1,4 +1,4 @@
-// Sessions over hosts in other states than new ones, and what closing leaves of a host.
+//! Sessions over hosts in other states than new ones, and what closing leaves of a host.
 use crate::exchange::is_refused;
 use crate::recorded::Field::Held;
 use crate::recorded::{Event, tape_of};
@@ -8,7 +8,7 @@ use session::Session;
 use std::test::Fail;
 use tape_host::Tape;
 
-// What is left of a host whose result was let go of.
+/// What is left of a host whose result was let go of.
 fn is_freed(mut tape: Tape) -> bool {
     tape.column_count() == 1
         && tape.error_number() == 0
@@ -31,7 +31,7 @@ fn closing(rt: HostRuntime) -> Result<(), Fail> {
             ..BindRecord::default()
         }])
     );
-    assert!(rt; used.fetch(&mut arena, &mut [Report::default()]) as u8 == 0);
+    assert!(rt; used.fetch(&mut arena, &mut [Report::default()]).number() == 0);
     let mut first = Session::new(used);
     let second = Session::new(used);
     let slip = first.open(&mut arena, &[]).expect(&rt, "an opening");

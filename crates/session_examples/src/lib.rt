@@ -1,4 +1,4 @@
-// Examples of sessions and of lists of calls, from the rules, over tapes and trays, as tests.
+//! Examples of sessions and of lists of calls, from the rules, over tapes and trays, as tests.
 #![tactic(auto)]
 
 #[cfg(test)]

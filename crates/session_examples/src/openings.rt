@@ -1,4 +1,4 @@
-// Openings, by the checks of docs/session.md in their order.
+//! Openings, by the checks of docs/session.md in their order.
 use crate::exchange::Due::{self, End, Failed, Opened, Refused, Row};
 use crate::exchange::first_other;
 use crate::recorded::{Event, tape_of};
@@ -7,7 +7,7 @@ use play::Call::{Fetch, Open, Read};
 use std::test::Fail;
 use tape_host::Tape;
 
-// Columns by code and flags, wanted types, the arena's length, and what an opening answers.
+/// Columns by code and flags, wanted types, the arena's length, and what an opening answers.
 type Opening = (
     &'static [(u8, u32)],
     &'static [Option<MysqlType>],

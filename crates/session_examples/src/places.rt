@@ -1,5 +1,5 @@
-// Where the columns of a session lie, and how their places grow: a place that is too short gets the value's length and the others keep theirs; where
-// that is too much for the arena, each text gets what the need counts.
+//! Where the columns of a session lie, and how their places grow: a place that is too short gets the value's length and the others keep theirs; where
+//! that is too much for the arena, each text gets what the need counts.
 use crate::exchange::is_refused;
 use crate::recorded::Field::{Held, Lost, Null};
 use crate::recorded::{Event, tape_of};
@@ -8,7 +8,7 @@ use session::Session;
 use std::test::Fail;
 use tape_host::Tape;
 
-// Two texts behind a number of four bytes: their starts and capacities.
+/// Two texts behind a number of four bytes: their starts and capacities.
 fn places_of(session: &Session<Tape>) -> Option<[(usize, usize); 2]> {
     let first = session.column(1)?;
     let second = session.column(2)?;
@@ -107,7 +107,7 @@ fn marks(rt: HostRuntime) -> Result<(), Fail> {
     Ok(())
 }
 
-// An arena of another length is refused, and changes nothing: the row that was shown is still shown.
+/// An arena of another length is refused, and changes nothing: the row that was shown is still shown.
 #[test]
 fn another_arena(rt: HostRuntime) -> Result<(), Fail> {
     let row = Event::Row(&[Held(b"hello")]);

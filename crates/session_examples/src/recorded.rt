@@ -1,7 +1,7 @@
-// The bytes of a tape, as docs/tape.md has them, from its columns and events.
+//! The bytes of a tape, as docs/tape.md has them, from its columns and events.
 use std::alloc::{AllocError, Global};
 
-// What a row has in a column.
+/// What a row has in a column.
 #[derive(Clone, Copy)]
 pub(crate) enum Field<'a> {
     Null,
@@ -27,7 +27,7 @@ pub(crate) fn tape_of(
     Ok(bytes)
 }
 
-// A tape's bytes up to its events.
+/// A tape's bytes up to its events.
 pub(crate) fn head_of(
     heap: Global,
     columns: &[(u8, u32)],

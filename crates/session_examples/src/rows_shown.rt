@@ -1,4 +1,4 @@
-// Rows that are shown and rows that are refused, one after another.
+//! Rows that are shown and rows that are refused, one after another.
 use crate::exchange::Due::{Bytes, End, Failed, Integer, Null, Opened, Refused, Row};
 use crate::exchange::first_other;
 use crate::recorded::Field::{Held, Lost, Null as NullField};
@@ -74,7 +74,7 @@ fn two_texts_in_ten_bytes(rt: HostRuntime) -> Result<(), Fail> {
     Ok(())
 }
 
-// Three texts in fourteen bytes: two go right, two go left, one goes right and one left, one left and one right, and one goes left behind a null.
+/// Three texts in fourteen bytes: two go right, two go left, one goes right and one left, one left and one right, and one goes left behind a null.
 #[test]
 fn texts_that_move(rt: HostRuntime) -> Result<(), Fail> {
     let tape = tape_of(
@@ -118,7 +118,7 @@ fn texts_that_move(rt: HostRuntime) -> Result<(), Fail> {
     Ok(())
 }
 
-// Nulls, and a failure, between rows of long and short texts.
+/// Nulls, and a failure, between rows of long and short texts.
 #[test]
 fn nulls_and_failures_between_texts(rt: HostRuntime) -> Result<(), Fail> {
     let tape = tape_of(
@@ -170,7 +170,7 @@ fn nulls_and_failures_between_texts(rt: HostRuntime) -> Result<(), Fail> {
     Ok(())
 }
 
-// A row that loses a figure and has no room is refused with 10, with the lowest column that lost one.
+/// A row that loses a figure and has no room is refused with 10, with the lowest column that lost one.
 #[test]
 fn a_lost_figure_comes_first(rt: HostRuntime) -> Result<(), Fail> {
     let tape = tape_of(

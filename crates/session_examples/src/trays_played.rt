@@ -1,11 +1,11 @@
-// The rows of a tray, as docs/host.md makes them, through a session; and a tape and a tray whose next rows are alike.
+//! The rows of a tray, as docs/host.md makes them, through a session; and a tape and a tray whose next rows are alike.
 use crate::exchange::Due::{Bytes, End, Failed, Null, Opened, Refused, Row};
-use crate::exchange::{asked, first_wrong};
+use crate::exchange::{Checker, asked};
 use crate::recorded::Field::{Held, Null as NullField};
 use crate::recorded::{Event, head_of, push_event};
 use mysql::MysqlType;
 use play::Call::{Fetch, Open, Read, ReadInteger};
-use play::{PlayedBoth, play_both};
+use play::play_both;
 use rows::Fetch as Fetched;
 use session::Session;
 use std::alloc::{AllocError, Global};
@@ -13,7 +13,7 @@ use std::test::Fail;
 use tape_host::Tape;
 use tray::Tray;
 
-// The bytes of row k, which is not null.
+/// The bytes of row k, which is not null.
 fn row_of(heap: Global, k: usize) -> Result<Vec<u8>, AllocError> {
     let mut bytes = Vec::new(heap);
     for j in 0..37 * (k % 200) % 200 {
@@ -48,7 +48,7 @@ fn two_hundred_rows(rt: HostRuntime) -> Result<(), Fail> {
     Ok(())
 }
 
-// A tape of one text column: a row, a failure, a row with this text, and a null.
+/// A tape of one text column: a row, a failure, a row with this text, and a null.
 fn tape_with(heap: Global, text: &[u8]) -> Result<Vec<u8>, AllocError> {
     let mut bytes = head_of(heap, &[(253, 0)], 4)?;
     push_event(&mut bytes, Event::Row(&[Held(b"a row of its own")]))?;
@@ -84,19 +84,25 @@ fn answers_alike(rt: HostRuntime) -> Result<(), Fail> {
         (Read(0), Null),
         (Fetch, End),
     ];
-    let PlayedBoth { first, second } = play_both(
-        rt.alloc(),
-        Tape::new(&bytes)?,
+    let first_calls = asked(rt.alloc(), &of_tape)?;
+    let second_calls = asked(rt.alloc(), &of_tray)?;
+    let mut of_first = Checker::new(&of_tape);
+    let mut of_second = Checker::new(&of_tray);
+    let mut first = Session::new(Tape::new(&bytes)?);
+    let mut second = Session::new(Tray::new(3));
+    let (first_slip, second_slip) = play_both(
+        &mut first,
         &mut [1; 99],
-        &asked(rt.alloc(), &of_tape)?,
-        Tray::new(3),
+        &first_calls,
+        &mut of_first,
+        &mut second,
         &mut [2; 99],
-        &asked(rt.alloc(), &of_tray)?,
+        &second_calls,
+        &mut of_second,
     );
-    let wrong = (first_wrong(first, &of_tape), first_wrong(second, &of_tray));
-    assert!(rt;
-        matches!(wrong, (Ok(None), Ok(None))),
-        "of the tape, and of the tray: {wrong:?}"
-    );
+    let _tape = first.close(first_slip);
+    let _tray = second.close(second_slip);
+    assert_eq!(rt; of_first.right, of_tape.len());
+    assert_eq!(rt; of_second.right, of_tray.len());
     Ok(())
 }

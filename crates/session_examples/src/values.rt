@@ -1,4 +1,4 @@
-// Types and typed readings of what a session shows. (Refusal 15 cannot come: every code that reads as a number of bytes, or as a time, has its size.)
+//! Types and typed readings of what a session shows. (Refusal 15 cannot come: every code that reads as a number of bytes, or as a time, has its size.)
 use crate::exchange::Due::{BigInt, Bytes, Integer, Null, Opened, Refused, Row, Year};
 use crate::exchange::first_other;
 use crate::recorded::Field::{Held, Null as NullField};
@@ -101,7 +101,7 @@ fn numbers(rt: HostRuntime) -> Result<(), Fail> {
     Ok(())
 }
 
-// A time of the year 2026, with this as its sign.
+/// A time of the year 2026, with this as its sign.
 fn time_of(sign: u8) -> [u8; 48] {
     let mut time = [0; 48];
     time[0] = 0xea;
@@ -110,7 +110,7 @@ fn time_of(sign: u8) -> [u8; 48] {
     time
 }
 
-// A tape of a row with three times.
+/// A tape of a row with three times.
 fn tape_of_times(heap: Global, times: &[[u8; 48]; 3]) -> Result<Vec<u8>, AllocError> {
     let fields = [Held(&times[0]), Held(&times[1]), Held(&times[2])];
     tape_of(heap, &[(7, 0), (11, 0), (12, 0)], &[Event::Row(&fields)])

@@ -1,40 +1,40 @@
-// Shows what tapes hold: `show FILE..` prints the columns and the events of each, and `--tray N` the count of a tray of N rows.
+//! Shows what tapes hold: `show FILE..` prints the columns and the events of each, and `--tray N` the count of a tray of N rows.
 #![tactic(auto)]
 
 mod print;
 
 use anyhow::anyhow;
 use counts::print_tray;
-use files::{end, print_file, print_held};
+use files::{bytes_read, end, print_held};
 use print::InLines;
-use std::env;
 use std::process::ExitCode;
+use std::{env, fs};
 use tape::Recording;
 
-// What stands before the number of a tray's rows.
+/// What stands before the number of a tray's rows.
 const TRAY: &str = "--tray";
 
-// Prints what a file holds, or why it is no tape, and says whether it is one.
+/// Prints what a file holds, or why it is no tape, and says whether it is one.
 fn show_file(rt: &HostRuntime, name: &str) -> anyhow::Result<bool> {
-    print_file(rt, name, |bytes| {
-        print_held(rt, name, Recording::new(bytes).map(InLines))
-    })
+    let Some(bytes) = bytes_read(rt, name, fs::read(rt, name))? else {
+        return Ok(false);
+    };
+    print_held(rt, name, Recording::new(&bytes).map(InLines))
 }
 
-// Shows each file and tray that is named, and fails where one cannot be shown or none is named.
+/// Shows each file and tray that is named, and fails where one cannot be shown or none is named.
 fn run(rt: &HostRuntime) -> anyhow::Result<()> {
     let mut words = env::args(rt)?.skip(1).peekable();
     if words.peek().is_none() {
         return Err(anyhow!("name what to show: show FILE.. or show --tray N"));
     }
     let mut all_shown = true;
-    // no `for`: one word may take the next one with it
     while let Some(word) = words.next() {
         if word.as_str() == TRAY {
             let Some(rows) = words.next() else {
                 return Err(anyhow!("--tray wants a number of rows, 0 to 65535"));
             };
-            all_shown &= print_tray(rt, rows.as_str())?;
+            all_shown &= print_tray(rt, rows.as_str())?.is_some();
         } else {
             all_shown &= show_file(rt, word.as_str())?;
         }

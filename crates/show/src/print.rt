@@ -1,10 +1,10 @@
-// A tape in words. Each part of it is printed by a type of its own.
+//! A tape in words. Each part of it is printed by a type of its own.
 use mysql::{Column, Fault, MysqlType, last_error_type};
 use readings::{FromSql, MysqlTime, MysqlValue};
 use std::fmt;
 use tape::{Columns, Event, Field, Recording};
 
-// A recording's columns and events, a line each, with a line for each field of a row.
+/// A recording's columns and events, a line each, with a line for each field of a row.
 #[derive(Clone, Copy)]
 pub struct InLines<'a>(pub Recording<'a>);
 
@@ -91,7 +91,7 @@ impl fmt::Display for ShownField<'_> {
     }
 }
 
-// Text between quotes where the bytes are printable, else each byte in hexadecimal.
+/// Text between quotes where the bytes are printable, else each byte in hexadecimal.
 #[derive(Clone, Copy)]
 struct ShownBytes<'a>(&'a [u8]);
 
@@ -113,7 +113,7 @@ fn is_printable(c: char) -> bool {
     c >= ' ' && !('\u{7f}'..='\u{9f}').contains(&c)
 }
 
-// What a reading makes of a value, or the number of its refusal.
+/// What a reading makes of a value, or the number of its refusal.
 #[derive(Clone, Copy)]
 struct Answer<T>(Result<T, Fault>);
 

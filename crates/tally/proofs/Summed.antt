@@ -11,7 +11,7 @@ use Rattle.host.specs.declared.records.Fetched.{Fetched}
 use Rattle.host.specs.declared.records.Fetched.TheVariants as answer
 use Rattle.host.specs.Fields.{Field, null, held}
 use Rattle.host.specs.Meanings.{Row, Event, row, failure, Meaning}
-use Rattle.host.specs.Calls.{no_record, no_report, field_of, Reported, in_order, all_end_by, carried, bind_error, after_bind, allows, NotAllowed, FailureCame, RowCame, Fetches}
+use Rattle.host.specs.Calls.{no_bind, no_report, field_of, Reported, in_order, all_end_by, carried, bind_error, after_bind, allows, NotAllowed, FailureCame, RowCame, Fetches}
 use Rattle.host.proofs.Bound.{bind_after}
 use Rattle.tally.specs.declared.totals.Totals.{Totals}
 use Rattle.tally.specs.Tallies.{own_record, own_records, null_count, byte_count, row_sum, rows_in, failures_in, fields_in, capped, NoCount}
@@ -45,7 +45,7 @@ byte_one (held lost bs) n r h = ap (λ b. cond b 0 r.length) h.0 ∙ h.1
 
 module _ (fields : Row) where
   abbrev pub AllReported : ℕ → List BindRecord → List Report → Type 0
-  AllReported i ps rs = (k : ℕ) → k < length ps → Reported (field_of fields (i + k) (get_or ps k no_record)) (get_or ps k no_record).capacity (get_or rs k no_report)
+  AllReported i ps rs = (k : ℕ) → k < length ps → Reported (field_of fields (i + k) (get_or ps k no_bind)) (get_or ps k no_bind).capacity (get_or rs k no_report)
 
   first_reported : (i : ℕ) (p : BindRecord) (ps : List BindRecord) (r : Report) (rs : List Report) → AllReported i (p ∷ ps) (r ∷ rs) → Reported (field_of fields i p) p.capacity r
   first_reported i p ps r rs h = let z : i + 0 ≡ i = omega arith in subst (λ (n : ℕ). Reported (field_of fields n p) p.capacity r) z (h 0 (omega arith))
@@ -53,7 +53,7 @@ module _ (fields : Row) where
   rest_reported : (i : ℕ) (p : BindRecord) (ps : List BindRecord) (r : Report) (rs : List Report) → AllReported i (p ∷ ps) (r ∷ rs) → AllReported (suc i) ps rs
   rest_reported i p ps r rs h k l =
       let z : i + suc k ≡ suc i + k = omega arith in
-      subst (λ (n : ℕ). Reported (field_of fields n (get_or ps k no_record)) (get_or ps k no_record).capacity (get_or rs k no_report)) z (h (suc k) (omega arith))
+      subst (λ (n : ℕ). Reported (field_of fields n (get_or ps k no_bind)) (get_or ps k no_bind).capacity (get_or rs k no_report)) z (h (suc k) (omega arith))
 
   -- where a report counts for what its field counts for, the reports count for what the row counts for
   pub counts_are : (of_report : Report → ℕ) (of_field : Field → ℕ) → ((f : Field) (n : ℕ) (r : Report) → Reported f n r → of_report r ≡ of_field f)
@@ -102,12 +102,12 @@ module _ (t : Totals) (m m₀ : Meaning) (g : Going t m m₀) where
       → m.coming ≡ row fields ∷ rest → m.bound ≡ Some places
       → m' ≡ record { columns = m.columns; carries = m.carries; coming = rest; current = Some fields; bound = m.bound; error = 0 }
       → length rs ≡ length m₀.columns
-      → ((k : ℕ) → k < length places → Reported (field_of fields k (get_or places k no_record)) (get_or places k no_record).capacity (get_or rs k no_report))
+      → ((k : ℕ) → k < length places → Reported (field_of fields k (get_or places k no_bind)) (get_or places k no_bind).capacity (get_or rs k no_report))
       → Going (with_row rs t) m' m₀
   going_row m' fields rest places rs next b after n told =
       let same : places ≡ bs = let h = g.bound in cc in
       let told' : AllReported fields 0 bs rs = subst (λ (ps : List BindRecord). AllReported fields 0 ps rs) same
-      (λ k l. let z : k ≡ 0 + k = omega arith in subst (λ (i : ℕ). Reported (field_of fields i (get_or places k no_record)) (get_or places k no_record).capacity (get_or rs k no_report)) z (told k l)) in
+      (λ k l. let z : k ≡ 0 + k = omega arith in subst (λ (i : ℕ). Reported (field_of fields i (get_or places k no_bind)) (get_or places k no_bind).capacity (get_or rs k no_report)) z (told k l)) in
       let long : length rs ≡ length bs = n ∙ sym (length-map m₀.columns own_record) in
       let ns = counts_are fields nulls_of null_count null_one 0 bs rs long told' in
       let ys = counts_are fields bytes_of byte_count byte_one 0 bs rs long told' in

@@ -1,4 +1,4 @@
-// The count over any host.
+//! The count over any host.
 ghost use Rattle.std.specs.Prelude.{◌≡◌, length, Some, fold};
 ghost use Rattle.tally.specs.Tallies.{own_records, counted, emptied, Tallied};
 ghost use Rattle.tally.specs.Reports.{with_report, with_row};
@@ -7,7 +7,7 @@ use crate::records::own_records;
 use crate::totals::Totals;
 use host::{Fetched, Host, MOST_COLUMNS, Report, bind_all};
 
-// A report more.
+/// A report more.
 fn add_report(totals: Totals, report: &Report) -> Totals
     ensures { result ≡ with_report totals report.now }
 {
@@ -24,7 +24,7 @@ fn add_report(totals: Totals, report: &Report) -> Totals
     }
 }
 
-// So many reports more.
+/// So many reports more.
 fn add_reports(totals: Totals, reports: &[Report]) -> Totals
     ensures { result ≡ fold with_report totals reports.now }
 {
@@ -33,7 +33,7 @@ fn add_reports(totals: Totals, reports: &[Report]) -> Totals
         .fold(totals, |totals, report| add_report(totals, report))
 }
 
-// A row more, with these reports.
+/// A row more, with these reports.
 fn add_row(totals: Totals, reports: &[Report]) -> Totals
     ensures { result ≡ with_row reports.now totals }
 {
@@ -44,7 +44,7 @@ fn add_row(totals: Totals, reports: &[Report]) -> Totals
     add_reports(row, reports)
 }
 
-// Fetches to the end, and counts. A loop: each turn has the reports that its fetch wrote.
+/// Fetches to the end, and counts. A loop: each turn has the reports that its fetch wrote.
 fn count_events<H: Host>(host: &mut H, reports: &mut [Report]) -> Totals
     requires bound { (H.Host.meaning host.old).bound ≡ Some (own_records (H.Host.meaning host.old).columns) }
     requires reported { length reports.old ≡ length (H.Host.meaning host.old).columns }
@@ -61,8 +61,8 @@ fn count_events<H: Host>(host: &mut H, reports: &mut [Report]) -> Totals
     }
 }
 
-// Fetches what is to come to its end, each column at its own code and sign, and counts it. There is no count where some column does
-// not carry its own code.
+/// Fetches what is to come to its end, each column at its own code and sign, and counts it. There is no count where some column does
+/// not carry its own code.
 pub fn tally<H: Host>(host: &mut H) -> Option<Totals>
     ensures { Tallied result (H.Host.meaning host.old) (H.Host.meaning host.new) }
 {

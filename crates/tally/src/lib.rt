@@ -1,4 +1,4 @@
-// A count of what any host has to come.
+//! A count of what any host has to come.
 #![tactic(auto)]
 
 mod count;

@@ -1,6 +1,6 @@
-// What is counted.
+//! What is counted.
 
-// How many rows and failures came, and how many nulls and bytes the rows had; each at most 2^64 - 1.
+/// How many rows and failures came, and how many nulls and bytes the rows had; each at most 2^64 - 1.
 #[derive(Clone, Copy, PartialEq, Eq, Debug, Default)]
 pub struct Totals {
     pub rows: u64,

@@ -1,8 +1,9 @@
-pub mod Steps
+pub mod Numbers
+pub mod Held
+pub mod Columned
+pub mod Rowed
 pub mod Walked
-pub mod Same
-pub mod Fitting
-pub mod Counted
+pub mod Tagged
+pub mod Stepped
 pub mod Whole
-pub mod OnBytes
-pub mod Stands
+pub mod Yielded

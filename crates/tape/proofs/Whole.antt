@@ -1,135 +1,131 @@
 -- A whole tape, part by part.
 -- Assumes nothing.
-use Rattle.std.proofs.Common.{◌≡◌, ℕ, zero, suc, ◌+◌, ◌*◌, ◌%◌, ◌^◌, ◌<◌, ◌≤◌, leb, List, [], ◌∷◌, length, take, drop, Some, None, sym, refl, ap, ◌∙◌, arith}
-use Rattle.std.proofs.lemmas.Bool.{le-leb, lt-leb}
+use Rattle.std.proofs.Common.{◌≡◌, ℕ, zero, suc, ◌+◌, ◌*◌, ◌/◌, ◌%◌, ◌^◌, ◌<◌, ◌≤◌, ◌⊎◌, ⊎_elim, List, [], ◌∷◌, ◌++◌, length, take, drop, sym, refl, ap, ◌∙◌, subst, arith}
+use Rattle.std.proofs.lemmas.List.{append-nil, length-append, take-append-drop, length-take}
+use Rattle.std.specs.List.{flat_map}
 use Rattle.mysql.specs.declared.bind.Column.{Column}
-use Rattle.host.specs.Fields.{Field}
-use Rattle.tape.specs.Format.{Event, Contents}
-use Rattle.tape.specs.Decode.{Taken, taken, broken, next, given, left, take2, take_field, take_event, take_events, take_columns, ended, take_body, take_tape}
-use Rattle.tape.specs.Views.{columns_in, fields_in, events_in}
-use Rattle.tape.proofs.Steps.{given_is, given_not, next_split}
-use Rattle.tape.proofs.Walked.{left_some, left_none}
+use Rattle.host.specs.Fields.{Bytes}
+use Rattle.tape.specs.Format.{Event, Contents, two, column_bytes, event_bytes, ColumnsIn, EventsOf, Holds, TapeOf, NoTape}
+use Rattle.tape.specs.Steps.{Begins, NoneBegins}
+use Rattle.tape.specs.Unique.{two_one, cut_one, columns_long, events_one}
+use Rattle.tape.proofs.Held.{bytes_taken, bytes_behind}
 
-pub columns_at : (w : ℕ) (bs : List ℕ) → w * 5 ≤ length bs → take_columns w bs ≡ taken (columns_in (take (w * 5) bs)) (drop (w * 5) bs)
-columns_at zero bs l = refl
-columns_at (suc w) [] l = absurd (omega arith)
-columns_at (suc w) (a ∷ []) l = absurd (omega arith)
-columns_at (suc w) (a ∷ b ∷ []) l = absurd (omega arith)
-columns_at (suc w) (a ∷ b ∷ c ∷ []) l = absurd (omega arith)
-columns_at (suc w) (a ∷ b ∷ c ∷ d ∷ []) l = absurd (omega arith)
-columns_at (suc w) (a ∷ b ∷ c ∷ d ∷ e ∷ r) l =
-    let k : suc (suc (suc (suc (suc (w * 5))))) ≡ suc w * 5 = omega arith in
-    let f : Column = record { code = a % 256; flags = (b + c * 256 + d * 65536 + e * 16777216) % 2 ^ 32 } in
-    ap (λ t. next t (λ cs s. taken (f ∷ cs) s)) (columns_at w r (omega arith))
-    ∙ ap (λ n. taken (columns_in (take n (a ∷ b ∷ c ∷ d ∷ e ∷ r))) (drop n (a ∷ b ∷ c ∷ d ∷ e ∷ r))) k
-
-pub columns_cut : (w : ℕ) (bs : List ℕ) → length bs < w * 5 → take_columns w bs ≡ broken
-columns_cut zero bs l = absurd (omega arith)
-columns_cut (suc w) [] l = refl
-columns_cut (suc w) (a ∷ []) l = refl
-columns_cut (suc w) (a ∷ b ∷ []) l = refl
-columns_cut (suc w) (a ∷ b ∷ c ∷ []) l = refl
-columns_cut (suc w) (a ∷ b ∷ c ∷ d ∷ []) l = refl
-columns_cut (suc w) (a ∷ b ∷ c ∷ d ∷ e ∷ r) l =
-    let f : Column = record { code = a % 256; flags = (b + c * 256 + d * 65536 + e * 16777216) % 2 ^ 32 } in
-    ap (λ t. next t (λ cs s. taken (f ∷ cs) s)) (columns_cut w r (omega arith))
-
-pub events_in_is : (cs : List Column) (n : ℕ) (bs : List ℕ) (es : List Event) (r : List ℕ) → take_events cs n bs ≡ taken es r → events_in cs n bs ≡ es
-events_in_is cs zero bs es r h = cc
-events_in_is cs (suc n) bs es r h =
-    let x = next_split (take_event cs bs) (λ f q. next (take_events cs n q) (λ gs s. taken (f ∷ gs) s)) es r h in
-    let y = next_split (take_events cs n x.rest) (λ gs s. taken (x.first ∷ gs) s) es r x.then in
-    let e : x.first ∷ y.first ≡ es = let k = y.then in cc in
-    ap (λ t. elim t [ taken f q ↦ f ∷ events_in cs n q | broken ↦ [] ]) x.was
-    ∙ ap (λ u. x.first ∷ u) (events_in_is cs n x.rest y.first y.rest y.was) ∙ e
-
-ended_over : (t : Contents) (s : List ℕ) → (length s ≡ 0 → ⊥) → ended t s ≡ broken
-ended_over t [] h = absurd (h refl)
-ended_over t (b ∷ s) h = refl
-
-ended_here : (t : Contents) (s : List ℕ) → length s ≡ 0 → ended t s ≡ taken t []
-ended_here t [] h = refl
-ended_here t (b ∷ s) h = absurd (omega arith)
-
-abbrev body_from : List Column → ℕ → List ℕ → Taken Contents
-body_from cs n r = next (take_events cs n r) (λ es s. ended (record { columns = cs; events = es }) s)
-
-abbrev whole_of : List Column → ℕ → List ℕ → Contents
-whole_of cs n r = record { columns = cs; events = events_in cs n r }
+-- any bytes, five for each column, are those of columns
+pub columns_of : (w : ℕ) (bs : List ℕ) → Bytes bs → length bs ≡ w * 5 → (cs : List Column) × ColumnsIn bs cs
+columns_of zero [] h l = ([], record { bytes_are = refl; fit = tt })
+columns_of zero (a ∷ bs) h l = absurd (omega arith)
+columns_of (suc w) [] h l = absurd (omega arith)
+columns_of (suc w) (a ∷ []) h l = absurd (omega arith)
+columns_of (suc w) (a ∷ b ∷ []) h l = absurd (omega arith)
+columns_of (suc w) (a ∷ b ∷ c ∷ []) h l = absurd (omega arith)
+columns_of (suc w) (a ∷ b ∷ c ∷ d ∷ []) h l = absurd (omega arith)
+columns_of (suc w) (a ∷ b ∷ c ∷ d ∷ e ∷ r) h l =
+    let la = h.0 in
+    let lb = h.1.0 in
+    let lc = h.1.1.0 in
+    let ld = h.1.1.1.0 in
+    let le = h.1.1.1.1.0 in
+    let p = columns_of w r h.1.1.1.1.1 (omega arith) in
+    let n = b + c * 256 + d * 65536 + e * 16777216 in
+    let eb : n % 256 ≡ b = omega arith in
+    let ec : n / 256 % 256 ≡ c = omega arith in
+    let ed : n / 65536 % 256 ≡ d = omega arith in
+    let ee : n / 16777216 ≡ e = omega arith in
+    let behind = flat_map column_bytes p.0 in (
+      record { code = a; flags = n } ∷ p.0,
+      record {
+        bytes_are =
+            ap (λ k. a ∷ k ∷ n / 256 % 256 ∷ n / 65536 % 256 ∷ n / 16777216 ∷ behind) eb
+            ∙ ap (λ k. a ∷ b ∷ k ∷ n / 65536 % 256 ∷ n / 16777216 ∷ behind) ec
+            ∙ ap (λ k. a ∷ b ∷ c ∷ k ∷ n / 16777216 ∷ behind) ed
+            ∙ ap (λ k. a ∷ b ∷ c ∷ d ∷ k ∷ behind) ee
+            ∙ ap (λ xs. a ∷ b ∷ c ∷ d ∷ e ∷ xs) p.1.bytes_are;
+        fit = ((omega arith, omega arith), p.1.fit);
+      },
+    )
 
 -- a tape's counts are w and n, and s is what follows them
-module _ (b : List ℕ) (w : ℕ) (r : List ℕ) (hw : take2 b ≡ taken w r) where
-  module _ (n : ℕ) (s : List ℕ) (hn : take2 r ≡ taken n s) where
-    counted : take_tape b ≡ given (leb w 64) (take_body w n s)
-    counted =
-        ap (λ t. next t (λ w r. next (take2 r) (λ n s. given (leb w 64) (take_body w n s)))) hw
-        ∙ ap (λ t. next t (λ n s. given (leb w 64) (take_body w n s))) hn
+module _ (bytes : List ℕ) (w : ℕ) (r : List ℕ) (hw : Begins (λ n. n < 2 ^ 16) two bytes w r) (n : ℕ) (s : List ℕ) (hn : Begins (λ n. n < 2 ^ 16) two r n s) where
+  record Parts (t : Contents) : Type 0 where
+    wide : length t.columns ≡ w
+    long : length t.events ≡ n
+    are : flat_map column_bytes t.columns ++ flat_map event_bytes t.events ≡ s
 
-    pub too_wide : 64 < w → take_tape b ≡ broken
-    too_wide l = counted ∙ given_not (leb w 64) _ (lt-leb w 64 l)
+  parts : (t : Contents) → TapeOf bytes t → Parts t
+  parts t h =
+      let a = two_one (length t.columns) w (two (length t.events) ++ (flat_map column_bytes t.columns ++ flat_map event_bytes t.events)) r (h.bytes_are ∙ sym hw.bytes_are) in
+      let b = two_one (length t.events) n (flat_map column_bytes t.columns ++ flat_map event_bytes t.events) s (a.1 ∙ sym hn.bytes_are) in
+      record { wide = a.0; long = b.0; are = b.1 }
 
-    module _ (narrow : w ≤ 64) where
-      pub columns_missing : length s < w * 5 → take_tape b ≡ broken
-      columns_missing l =
-          counted ∙ given_is (leb w 64) _ (le-leb w 64 narrow)
-          ∙ ap (λ t. next t (λ cs q. body_from cs n q)) (columns_cut w s l)
+  pub wide_or_short : (64 < w) ⊎ ((w ≤ 64) × (length s < w * 5)) → NoTape bytes
+  wide_or_short h t k =
+      let p = parts t k in
+      let few = k.narrow in
+      let wide = p.wide in
+      ⊎_elim (λ a. omega arith)
+      (λ a. let short = a.1 in omega (arith, ap length p.are, length-append (flat_map column_bytes t.columns) (flat_map event_bytes t.events), columns_long t.columns)) h
 
-      -- the columns and the events as they are cut off
-      module _ (v : ℕ) (front q : List ℕ) (e : v ≡ w) (hf : front ≡ take (v * 5) s) (hq : q ≡ drop (v * 5) s) (l : v * 5 ≤ length s) where
-        abbrev listed : List Column
-        listed = columns_in front
+  pub behind_counts : Bytes bytes → Bytes s
+  behind_counts fit = bytes_behind (two n) s (subst Bytes (sym hn.bytes_are) (bytes_behind (two w) r (subst Bytes (sym hw.bytes_are) fit)))
 
-        events_next : take_tape b ≡ body_from listed n q
-        events_next =
-            let k : w * 5 ≤ length s = omega arith in
-            counted ∙ given_is (leb w 64) _ (le-leb w 64 narrow)
-            ∙ ap (λ t. next t (λ cs r. body_from cs n r)) (columns_at w s k)
-            ∙ ap (λ x. body_from (columns_in (take (x * 5) s)) n (drop (x * 5) s)) (sym e)
-            ∙ ap (λ u. body_from (columns_in u) n (drop (v * 5) s)) (sym hf) ∙ ap (body_from listed n) (sym hq)
+  module _ (narrow : w ≤ 64) (front back : List ℕ) (hf : front ≡ take (w * 5) s) (hb : back ≡ drop (w * 5) s) (enough : w * 5 ≤ length s) where
+    pub as_many : length front ≡ w * 5
+    as_many = ap length hf ∙ length-take (w * 5) s ∙ omega arith
 
-        pub events_broken : left (take_events listed n q) ≡ None → take_tape b ≡ broken
-        events_broken h = events_next ∙ ap (λ t. next t (λ es s. ended (record { columns = listed; events = es }) s)) (left_none (take_events listed n q) h)
+    both : front ++ back ≡ s
+    both = ap (λ xs. xs ++ back) hf ∙ ap (λ xs. take (w * 5) s ++ xs) hb ∙ take-append-drop (w * 5) s
 
-        pub too_long : (d : List ℕ) → left (take_events listed n q) ≡ Some d → (length d ≡ 0 → ⊥) → take_tape b ≡ broken
-        too_long d h z =
-            let p = left_some (take_events listed n q) d h in
-            events_next ∙ ap (λ t. next t (λ es s. ended (record { columns = listed; events = es }) s)) p.1
-            ∙ ended_over (record { columns = listed; events = p.0 }) d z
+    cut : (t : Contents) (p : Parts t) → (flat_map column_bytes t.columns ≡ front) × (flat_map event_bytes t.events ≡ back)
+    cut t p =
+        cut_one (flat_map column_bytes t.columns) front (flat_map event_bytes t.events) back
+        (columns_long t.columns ∙ ap (λ k. k * 5) p.wide ∙ sym as_many) (p.are ∙ sym both)
 
-        pub all_there : (d : List ℕ) → left (take_events listed n q) ≡ Some d → length d ≡ 0 → take_tape b ≡ taken (whole_of listed n q) []
-        all_there d h z =
-            let p = left_some (take_events listed n q) d h in
-            events_next ∙ ap (λ t. next t (λ es s. ended (record { columns = listed; events = es }) s)) p.1
-            ∙ ended_here (record { columns = listed; events = p.0 }) d z
-            ∙ ap (λ es. taken (record { columns = listed; events = es }) []) (sym (events_in_is listed n q p.0 d p.1))
+    listed : (t : Contents) (k : TapeOf bytes t) → ColumnsIn front t.columns
+    listed t k = record { bytes_are = (cut t (parts t k)).0; fit = k.columns_fit }
 
--- going through fields
+    pub no_events : ((cs : List Column) → ColumnsIn front cs → NoneBegins (EventsOf cs n) (flat_map event_bytes) back) → NoTape bytes
+    no_events none t k =
+        none t.columns (listed t k) t.events []
+        (record { fits = ((parts t k).long, k.events_of); bytes_are = append-nil (flat_map event_bytes t.events) ∙ (cut t (parts t k)).1 })
 
-pub fields_first : (c : Column) (cs : List Column) (bs : List ℕ) (f : Field) (r : List ℕ) → take_field c.code bs ≡ taken f r → fields_in (c ∷ cs) bs ≡ f ∷ fields_in cs r
-fields_first c cs bs f r h = ap (λ t. elim t [ taken g q ↦ g ∷ fields_in cs q | broken ↦ [] ]) h
+    pub too_long : (end : List ℕ) → ((cs : List Column) → ColumnsIn front cs → (es : List Event) × Begins (EventsOf cs n) (flat_map event_bytes) back es end) → (length end ≡ 0 → ⊥) → NoTape bytes
+    too_long end all over t k =
+        let q = all t.columns (listed t k) in
+        let p = parts t k in
+        let o = events_one t.columns q.0 t.events end [] (q.1.fits.0 ∙ sym p.long) q.1.fits.1 k.events_of
+        (q.1.bytes_are ∙ sym (append-nil (flat_map event_bytes t.events) ∙ (cut t p).1)) in
+        over (ap length o.1)
 
--- no more comes than there are bytes, columns or events counted
+    pub held : (end : List ℕ) → Bytes s → ((cs : List Column) → ColumnsIn front cs → (es : List Event) × Begins (EventsOf cs n) (flat_map event_bytes) back es end) → length end ≡ 0
+        → (t : Contents) × Holds front back n t
+    held [] fit all e =
+        let c = columns_of w front (subst Bytes (sym hf) (bytes_taken (w * 5) s fit)) as_many in
+        let q = all c.0 c.1 in (
+          record { columns = c.0; events = q.0 },
+          record {
+            columns_in = c.1;
+            events_in = record { bytes_are = sym (append-nil (flat_map event_bytes q.0)) ∙ q.1.bytes_are; events_of = q.1.fits };
+          },
+        )
+    held (x ∷ end) fit all e = absurd (omega arith)
 
-pub columns_few : (bs : List ℕ) → length (columns_in bs) ≤ length bs
-columns_few [] = omega arith
-columns_few (a ∷ []) = omega arith
-columns_few (a ∷ b ∷ []) = omega arith
-columns_few (a ∷ b ∷ c ∷ []) = omega arith
-columns_few (a ∷ b ∷ c ∷ d ∷ []) = omega arith
-columns_few (a ∷ b ∷ c ∷ d ∷ e ∷ r) = let h = columns_few r in omega arith
-
-fields_after : (cs : List Column) (t : Taken Field) → ((r : List ℕ) → length (fields_in cs r) ≤ length cs) → length {A = Field} (elim t [ taken f r ↦ f ∷ fields_in cs r | broken ↦ [] ]) ≤ length cs + 1
-fields_after cs (taken f r) h = let k = h r in omega arith
-fields_after cs broken h = omega arith
-
-pub fields_few : (cs : List Column) (bs : List ℕ) → length (fields_in cs bs) ≤ length cs
-fields_few [] bs = omega arith
-fields_few (c ∷ cs) bs = let h = fields_after cs (take_field c.code bs) (λ r. fields_few cs r) in omega arith
-
-events_after : (cs : List Column) (n : ℕ) (t : Taken Event) → ((r : List ℕ) → length (events_in cs n r) ≤ n) → length {A = Event} (elim t [ taken e r ↦ e ∷ events_in cs n r | broken ↦ [] ]) ≤ n + 1
-events_after cs n (taken e r) h = let k = h r in omega arith
-events_after cs n broken h = omega arith
-
-pub events_few : (cs : List Column) (n : ℕ) (bs : List ℕ) → length (events_in cs n bs) ≤ n
-events_few cs zero bs = omega arith
-events_few cs (suc n) bs = let h = events_after cs n (take_event cs bs) (λ r. events_few cs n r) in omega arith
+    pub tape_of : (t : Contents) → Holds front back n t → TapeOf bytes t
+    tape_of t h =
+        let long = columns_long t.columns in
+        let same : length t.columns ≡ w = omega (arith, ap length h.columns_in.bytes_are, as_many) in
+        let few = hn.fits in
+        let count = h.events_in.events_of.0 in
+        record {
+          bytes_are =
+              ap (λ k. two k ++ (two (length t.events) ++ (flat_map column_bytes t.columns ++ flat_map event_bytes t.events))) same
+              ∙ ap (λ k. two w ++ (two k ++ (flat_map column_bytes t.columns ++ flat_map event_bytes t.events))) count
+              ∙ ap (λ xs. two w ++ (two n ++ (xs ++ flat_map event_bytes t.events))) h.columns_in.bytes_are
+              ∙ ap (λ xs. two w ++ (two n ++ (front ++ xs))) h.events_in.bytes_are
+              ∙ ap (λ xs. two w ++ (two n ++ xs)) both
+              ∙ ap (λ xs. two w ++ xs) hn.bytes_are
+              ∙ hw.bytes_are;
+          narrow = omega arith;
+          few = omega arith;
+          columns_fit = h.columns_in.fit;
+          events_of = h.events_in.events_of.1;
+        }

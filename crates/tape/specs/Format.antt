@@ -57,6 +57,37 @@ abbrev pub EventOf : List Column → Event → Type 0
 EventOf cs (row fs) = RowOf cs fs
 EventOf cs (failure n) = (1 ≤ n) × (n ≤ 65535)
 
+-- the columns that bytes hold, and nothing else
+pub record ColumnsIn (bytes : List ℕ) (cs : List Column) : Type 0 where
+  pub bytes_are : flat_map column_bytes cs ≡ bytes
+  pub fit : AllByRecursion ColumnFits cs
+
+-- so many events with these columns
+abbrev pub EventsOf : List Column → ℕ → List Event → Type 0
+EventsOf cs count es = (length es ≡ count) × AllByRecursion (EventOf cs) es
+
+-- the events that bytes hold, so many and nothing else
+pub record EventsIn (cs : List Column) (bytes : List ℕ) (count : ℕ) (es : List Event) : Type 0 where
+  pub bytes_are : flat_map event_bytes es ≡ bytes
+  pub events_of : EventsOf cs count es
+
+-- the contents of some bytes of columns, and bytes of so many events
+pub record Holds (columns events : List ℕ) (count : ℕ) (t : Contents) : Type 0 where
+  pub columns_in : ColumnsIn columns t.columns
+  pub events_in : EventsIn t.columns events count t.events
+
+-- a row among others: its columns, its fields, and the bytes after these
+pub record RowContents : Type 0 where
+  pub columns : List Column
+  pub fields : List Field
+  pub rest : List ℕ
+
+-- bytes of columns, and bytes that begin with the fields of a row
+pub record RowIn (columns bytes : List ℕ) (r : RowContents) : Type 0 where
+  pub columns_in : ColumnsIn columns r.columns
+  pub row_of : RowOf r.columns r.fields
+  pub bytes_are : flat_map field_bytes r.fields ++ r.rest ≡ bytes
+
 -- these bytes are a tape with these contents
 pub record TapeOf (bytes : List ℕ) (t : Contents) : Type 0 where
   pub bytes_are : tape_bytes t ≡ bytes

@@ -1,4 +1,5 @@
 pub mod Format
-pub mod Decode
+pub mod Unique
+pub mod Steps
 pub mod Views
 pub mod Recordings

@@ -1,94 +1,77 @@
--- What a recording stands for, and which bytes it is made of.
-use Rattle.std.specs.Prelude.{◌≡◌, ℕ, ◌≤◌, List, [], ◌∷◌, length, Some, None, Ok, Err, Option, Result}
+-- What a recording stands for, and how it is gone through.
+use Rattle.std.specs.Prelude.{◌≡◌, ℕ, List, [], ◌∷◌, ◌++◌, drop, Some, None, Ok, Err, Option, Result}
+use Rattle.std.specs.List.{flat_map, slice_get}
+use Rattle.std.specs.Option.{option_map}
 use Rattle.mysql.specs.declared.fault.Fault.{Fault}
 use Rattle.mysql.specs.declared.fault.Refusal.TheVariants.{BrokenTape}
 use Rattle.mysql.specs.Faults.{refused}
-use Rattle.tape.specs.declared.event.Row.{Row as RowView}
+use Rattle.tape.specs.declared.event.Row.{Row}
+use Rattle.tape.specs.declared.field.Field.{Field as View}
 use Rattle.tape.specs.declared.event.Event.{Event as EventView}
-use Rattle.tape.specs.declared.event.Event.TheVariants as view_event
 use Rattle.tape.specs.declared.parts.Recording.{Recording}
 use Rattle.tape.specs.declared.recording.Columns.{Columns}
 use Rattle.tape.specs.declared.recording.Events.{Events}
 use Rattle.tape.specs.declared.recording.Fields.{Fields}
 use Rattle.mysql.specs.declared.bind.Column.{Column}
 use Rattle.host.specs.Fields.{Field}
-use Rattle.tape.specs.Format.{Event, row, failure, Contents, TapeOf, NoTape}
-use Rattle.tape.specs.Decode.{Taken, taken, broken}
-use Rattle.tape.specs.Views.{columns_in, after_fields, events_in, row_of, event_of, row_event, EventColumned}
+use Rattle.tape.specs.Format.{Event, row, Contents, field_bytes, event_bytes, ColumnsIn, Holds, RowContents, TapeOf, NoTape}
+use Rattle.tape.specs.Views.{field_of, RowShows, Next}
 
--- what lies in the bytes of columns and the bytes of so many events
-abbrev pub contents_in : (columns events : List ℕ) (count : ℕ) → Contents
-contents_in columns events count = record { columns = columns_in columns; events = events_in (columns_in columns) count events }
-
+-- a recording's type has its contents
 abbrev pub contents : Recording → Contents
-contents r = contents_in r.columns.now r.events.now r.count
+contents r = r.held.0
 
-abbrev pub whole : Option Recording → Taken Contents
-whole None = broken
-whole (Some r) = taken (contents r) []
+abbrev pub Read : List ℕ → Option Recording → Type 0
+Read bytes None = NoTape bytes
+Read bytes (Some r) = TapeOf bytes (contents r)
 
 -- bytes are taken exactly where they are a tape, with the tape's contents; any others are refused with 23
 abbrev pub Opened : List ℕ → Result Recording Fault → Type 0
 Opened bytes (Ok r) = TapeOf bytes (contents r)
 Opened bytes (Err f) = (f ≡ refused BrokenTape) × NoTape bytes
 
--- one step of going through a list: what is shown of it is what came, and then what is left; nothing comes at its end, and
--- nothing after
-abbrev pub Gives : {S X Y : Type 0} (shown : S → List Y) (means : X → Y) → S → Option X → S → Type 0
-Gives shown means before None after = (shown before ≡ []) × (shown after ≡ [])
-Gives shown means before (Some x) after = shown before ≡ means x ∷ shown after
+-- bytes can be read in one way only
+abbrev pub OneReading : List ℕ → Type 0
+OneReading bytes = (t u : Contents) → TapeOf bytes t → TapeOf bytes u → t ≡ u
 
 -- what is left to go through
-abbrev pub columns_left : Columns → List Column
-columns_left s = columns_in s.bytes.now
+abbrev pub ColumnsLeft : Columns → List Column → Type 0
+ColumnsLeft s cs = ColumnsIn s.bytes.now cs
 
-abbrev pub event_columns : Events → List Column
-event_columns s = columns_in s.columns.now
+abbrev pub EventsLeft : Events → Contents → Type 0
+EventsLeft s t = Holds s.columns.now s.bytes.now s.count t
 
-abbrev pub events_left : Events → List Event
-events_left s = events_in (columns_in s.columns.now) s.count s.bytes.now
+abbrev pub FieldsLeft : Fields → RowContents → Type 0
+FieldsLeft s r = RowShows s.rest r
 
-abbrev pub fields_left : Fields → List Field
-fields_left s = row_of s.rest
+-- the same without the first
+abbrev pub later_events : Contents → Contents
+later_events t = record { columns = t.columns; events = drop 1 t.events }
 
--- all events that are counted stand
-abbrev pub Stand : Events → Type 0
-Stand s = length (events_left s) ≡ s.count
+abbrev pub later_fields : RowContents → RowContents
+later_fields r = record { columns = drop 1 r.columns; fields = drop 1 r.fields; rest = r.rest }
 
--- an event that comes has the bytes of these columns
-abbrev pub EachColumned : List ℕ → Option EventView → Type 0
-EachColumned columns None = Unit {0}
-EachColumned columns (Some e) = EventColumned columns e
+-- one step of going through them: the first comes, and the others are left; at the end none comes
+abbrev pub GivesColumn : Columns → Option Column → Columns → Type 0
+GivesColumn before c after = (cs : List Column) → ColumnsLeft before cs → (c ≡ slice_get cs 0) × ColumnsLeft after (drop 1 cs)
 
--- a step of going through events: the same columns stand after it, and where all events stood, all that are left do
-pub record GivesEvents (before : Events) (e : Option EventView) (after : Events) : Type 0 where
-  pub gives : Gives events_left event_of before e after
-  pub same_columns : after.columns.now ≡ before.columns.now
-  pub columned : EachColumned before.columns.now e
-  pub stand : Stand before → Stand after
+abbrev pub GivesEvent : Events → Option EventView → Events → Type 0
+GivesEvent before e after = (t : Contents) → EventsLeft before t → Next t.columns t.events e × EventsLeft after (later_events t)
 
--- this event is the next one
-abbrev pub IsNext : Events → Event → Type 0
-IsNext s e = (es : List Event) × (events_left s ≡ e ∷ es)
+abbrev pub GivesField : Fields → Option View → Fields → Type 0
+GivesField before f after = (r : RowContents) → FieldsLeft before r → (option_map field_of f ≡ slice_get r.fields 0) × FieldsLeft after (later_fields r)
 
--- each column has a field in a row's bytes
-abbrev pub RowStands : RowView → Type 0
-RowStands r = length (row_of r) ≡ length (columns_in r.columns.now)
-
--- a row begins what is left, and its fields are at the front of these bytes
-pub record RowNext (s : Events) (r : RowView) : Type 0 where
-  pub some : 1 ≤ s.count
-  pub columned : r.columns.now ≡ s.columns.now
-  pub first : s.bytes.now ≡ 0 ∷ r.bytes.now
-  pub next : Stand s → IsNext s (row (row_of r))
-  pub stands : Stand s → RowStands r
-
--- what is next and is not taken off: no event, a row or a failure
+-- the next event, which is not taken off
 abbrev pub Peeks : Events → Option EventView → Type 0
-Peeks s None = events_left s ≡ []
-Peeks s (Some (view_event.Row r)) = RowNext s r
-Peeks s (Some (view_event.Failure n)) = IsNext s (failure n)
+Peeks s e = (t : Contents) → EventsLeft s t → Next t.columns t.events e
 
--- the row that is next is taken off, by the bytes that its fields leave
-abbrev pub PassesRow : Events → RowView → List ℕ → Events → Type 0
-PassesRow before r rest after = Stand before → RowNext before r → rest ≡ after_fields (columns_in r.columns.now) r.bytes.now → GivesEvents before (Some (row_event r)) after
+-- the row that is next is taken off, by the bytes behind its fields
+abbrev pub PassesRow : Events → Row → List ℕ → Events → Type 0
+PassesRow before r rest after =
+    (cs : List Column) (fs : List Field) (es : List Event) → EventsLeft before (record { columns = cs; events = row fs ∷ es })
+    → RowShows r (record { columns = cs; fields = fs; rest = flat_map event_bytes es }) → flat_map field_bytes fs ++ rest ≡ r.bytes.now
+    → EventsLeft after (record { columns = cs; events = es })
+
+-- no event is left
+abbrev pub Stops : Events → Events → Type 0
+Stops before after = (t : Contents) → EventsLeft before t → EventsLeft after (record { columns = t.columns; events = [] })

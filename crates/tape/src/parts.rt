@@ -1,6 +1,6 @@
 //! A recording, as the parts of its bytes.
-ghost use Rattle.std.specs.Prelude.{◌≡◌, length};
-ghost use Rattle.tape.specs.Views.{columns_in, events_in};
+ghost use Rattle.tape.specs.Format.{Contents, Holds};
+ghost use Rattle.tape.specs.Unique.{one_contents};
 
 /// Bytes that are a tape (docs/tape.md): those of its columns, those of its events, and how many events there are, which no slice of bytes
 /// knows.
@@ -9,6 +9,6 @@ pub struct Recording<'a> {
     pub(crate) columns: &'a [u8],
     pub(crate) events: &'a [u8],
     pub(crate) count: u16,
-    // all events that are counted stand
-    ghost stand: { length (events_in (columns_in columns.now) count events.now) ≡ count },
+    // the contents of these bytes
+    ghost held: { (t : Contents) × Holds columns.now events.now count t } by { one_contents columns.now events.now count },
 }

@@ -1,11 +1,12 @@
 //! A recorded result, and how it is gone through: its columns, its events, and the fields of a row, one after the other.
-ghost use Rattle.std.specs.Prelude.{◌≡◌, ◌^◌, ◌<◌, [], length, Some};
-ghost use Rattle.std.specs.Option.{option_map};
-ghost use Rattle.tape.specs.Decode.{take_events, take_tape, left};
-ghost use Rattle.tape.specs.Views.{field_of, row_of, event_of, columns_in};
-ghost use Rattle.tape.specs.Recordings.{whole, Opened, contents_in, contents, Gives, GivesEvents, Stand, Peeks, PassesRow, columns_left, event_columns, events_left, fields_left};
-ghost use Rattle.std.specs.List.{slice_get};
+ghost use Rattle.std.specs.Prelude.{◌≡◌, ◌*◌, ◌≤◌, List, length};
+ghost use Rattle.std.specs.List.{flat_map, slice_get, AllByRecursion};
 ghost use Rattle.std.specs.Iterator.{at_most};
+ghost use Rattle.mysql.specs.declared.bind.Column.{Column as Listed};
+ghost use Rattle.tape.specs.Format.{Contents, event_bytes, ColumnsIn, EventsOf, Holds, RowContents};
+ghost use Rattle.tape.specs.Steps.{Passes};
+ghost use Rattle.tape.specs.Views.{RowShows};
+ghost use Rattle.tape.specs.Recordings.{contents, Read, Opened, OneReading, ColumnsLeft, EventsLeft, FieldsLeft, GivesColumn, GivesEvent, GivesField, Peeks, PassesRow, Stops};
 
 use crate::event::{Event, Row};
 use crate::field::Field;
@@ -19,7 +20,7 @@ pub const COLUMN_SIZE: usize = 5;
 
 /// The recording that bytes hold.
 fn read(bytes: &[u8]) -> Option<Recording<'_>>
-    ensures { take_tape bytes.now ≡ whole result }
+    ensures { Read bytes.now result }
 {
     let (width, rest) = take_u16(bytes)?;
     let (count, rest) = take_u16(rest)?;
@@ -34,8 +35,10 @@ fn read(bytes: &[u8]) -> Option<Recording<'_>>
         bytes,
         count,
     };
-    let end = events.end()?;
-    end.is_empty().then_some(Recording {
+    if !events.end()?.is_empty() {
+        return None;
+    }
+    Some(Recording {
         columns,
         events: bytes,
         count,
@@ -45,22 +48,22 @@ fn read(bytes: &[u8]) -> Option<Recording<'_>>
 impl<'a> Recording<'a> {
     /// Takes bytes that are a tape, and refuses all others.
     pub fn new(bytes: &'a [u8]) -> Result<Recording<'a>, Fault>
-        ensures { Opened bytes.now result }
+        ensures opened { Opened bytes.now result }
+        ensures one { OneReading bytes.now }
     {
         read(bytes).ok_or(Fault::new(Refusal::BrokenTape))
     }
 
     /// The bytes of its columns, those of its events, and how many events there are, for a caller that keeps them apart.
     pub fn parts(&self) -> (&'a [u8], &'a [u8], u16)
-        ensures { contents self.now ≡ contents_in result.0.now result.1.now result.2 }
+        ensures { Holds result.0.now result.1.now result.2 (contents self.now) }
     {
         (self.columns, self.events, self.count)
     }
 
     /// Its columns, one after the other.
     pub fn columns(&self) -> Columns<'a>
-        ensures all { columns_left result ≡ (contents self.now).columns }
-        ensures few { length (columns_left result) < 2 ^ 64 }
+        ensures { ColumnsLeft result (contents self.now).columns }
     {
         Columns {
             bytes: self.columns,
@@ -69,10 +72,7 @@ impl<'a> Recording<'a> {
 
     /// Its events, one after the other.
     pub fn events(&self) -> Events<'a>
-        ensures all { events_left result ≡ (contents self.now).events }
-        ensures columned { event_columns result ≡ (contents self.now).columns }
-        ensures stand { Stand result }
-        ensures few { length (events_left result) < 65536 }
+        ensures { EventsLeft result (contents self.now) }
     {
         Events {
             columns: self.columns,
@@ -85,8 +85,7 @@ impl<'a> Recording<'a> {
 impl<'a> Row<'a> {
     /// Its fields, one after the other.
     pub fn fields(&self) -> Fields<'a>
-        ensures all { fields_left result ≡ row_of self.now }
-        ensures few { length (fields_left result) < 2 ^ 64 }
+        ensures { (r : RowContents) → RowShows self.now r → FieldsLeft result r }
     {
         Fields { rest: *self }
     }
@@ -101,14 +100,15 @@ pub struct Columns<'a> {
 impl Columns<'_> {
     /// How many there are.
     pub fn len(&self) -> usize
-        ensures { result ≡ length (columns_left self.now) }
+        ensures counted { (cs : List Listed) → ColumnsLeft self.now cs → result ≡ length cs }
+        ensures room { COLUMN_SIZE * result ≤ length self.now.bytes.now }
     {
         self.bytes.len() / COLUMN_SIZE
     }
 
     /// The one at an index, in constant time.
     pub fn get(&self, i: usize) -> Option<Column>
-        ensures { result ≡ slice_get (columns_left self.now) i }
+        ensures { (cs : List Listed) → ColumnsLeft self.now cs → result ≡ slice_get cs i }
     {
         if i >= self.len() {
             return None;
@@ -121,9 +121,9 @@ impl Columns<'_> {
 impl Iterator for Columns<'_> {
     type Item = Column;
 
-    ghost next_gives = { Gives columns_left (λ c. c) };
+    ghost next_gives = { GivesColumn };
 
-    ghost remaining = { λ s. at_most (length (columns_left s)) };
+    ghost remaining = { λ s. at_most (length s.bytes.now) };
 
     fn next(&mut self) -> Option<Column> {
         let (column, rest) = take_column(self.bytes)?;
@@ -143,7 +143,7 @@ pub struct Events<'a> {
 impl<'a> Events<'a> {
     /// The columns that each of its rows has a field for.
     pub fn columns(&self) -> Columns<'a>
-        ensures { columns_left result ≡ event_columns self.now }
+        ensures { (t : Contents) → EventsLeft self.now t → ColumnsLeft result t.columns }
     {
         let bytes = self.columns;
         Columns { bytes }
@@ -176,8 +176,7 @@ impl<'a> Events<'a> {
     /// these. With any other row or bytes, nothing is said of the events that are then left.
     #[inline(always)]
     pub fn pass_row(&mut self, row: Row<'a>, rest: &'a [u8])
-        ensures passed { PassesRow self.old row.entry rest.now self.new }
-        ensures columned { event_columns self.new ≡ event_columns self.old }
+        ensures { PassesRow self.old row.entry rest.now self.new }
     {
         self.bytes = rest;
         self.count = self.count.saturating_sub(1);
@@ -185,16 +184,15 @@ impl<'a> Events<'a> {
 
     /// Lets no more of them come.
     pub fn stop(&mut self)
-        ensures none { events_left self.new ≡ [] }
-        ensures stand { Stand self.new }
-        ensures columned { event_columns self.new ≡ event_columns self.old }
+        ensures { Stops self.old self.new }
     {
+        self.bytes = &[];
         self.count = 0;
     }
 
     /// The bytes after them; none where they do not all stand.
     fn end(&self) -> Option<&'a [u8]>
-        ensures { left (take_events (columns_in self.now.columns.now) self.now.count self.now.bytes.now) ≡ option_map (λ x. x.now) result }
+        ensures { (cs : List Listed) → ColumnsIn self.now.columns.now cs → Passes (EventsOf cs self.now.count) (flat_map event_bytes) self.now.bytes.now result }
     {
         let mut rest = self.bytes;
         for _ in 0..self.count {
@@ -207,9 +205,9 @@ impl<'a> Events<'a> {
 impl<'a> Iterator for Events<'a> {
     type Item = Event<'a>;
 
-    ghost next_gives = { GivesEvents };
+    ghost next_gives = { GivesEvent };
 
-    ghost remaining = { λ s. at_most (length (events_left s)) };
+    ghost remaining = { λ s. at_most s.count };
 
     fn next(&mut self) -> Option<Event<'a>> {
         let count = self.count.checked_sub(1)?;
@@ -229,9 +227,9 @@ pub struct Fields<'a> {
 impl<'a> Iterator for Fields<'a> {
     type Item = Field<'a>;
 
-    ghost next_gives = { Gives fields_left field_of };
+    ghost next_gives = { GivesField };
 
-    ghost remaining = { λ s. at_most (length (fields_left s)) };
+    ghost remaining = { λ s. at_most (length s.rest.columns.now) };
 
     fn next(&mut self) -> Option<Field<'a>> {
         let Row { columns, bytes } = self.rest;

@@ -1,8 +1,12 @@
 //! Steps over a tape's bytes: each takes one thing off their front, and gives it with the bytes after it.
-ghost use Rattle.std.specs.Prelude.{◌≡◌, ℕ};
-ghost use Rattle.std.specs.Option.{option_map};
-ghost use Rattle.tape.specs.Decode.{take2, take4, take_held, take_field, take_fields, take_column, take_event, left};
-ghost use Rattle.tape.specs.Views.{field_of, event_of, columns_in, off, Columned};
+ghost use Rattle.std.specs.Prelude.{◌^◌, ◌<◌, List, ◌∷◌};
+ghost use Rattle.std.specs.List.{flat_map};
+ghost use Rattle.mysql.specs.declared.bind.Column.{Column as Listed};
+ghost use Rattle.host.specs.Fields.{FieldAt};
+ghost use Rattle.host.specs.Meanings.{ColumnFits};
+ghost use Rattle.tape.specs.Format.{two, four, tag, field_bytes, column_bytes, RowOf, ColumnsIn};
+ghost use Rattle.tape.specs.Steps.{Takes, Passes};
+ghost use Rattle.tape.specs.Views.{field_of, TakesEvent};
 
 use crate::event::{Event, Row};
 use crate::field::Field;
@@ -15,7 +19,7 @@ pub(crate) const NO_FAILURE: u16 = 0;
 /// A number in two bytes, the low one first.
 #[inline(always)]
 pub fn take_u16(bytes: &[u8]) -> Option<(u16, &[u8])>
-    ensures { take2 bytes.now ≡ off (λ n. n) result }
+    ensures { Takes (λ n. n < 2 ^ 16) two (λ n. n) bytes.now result }
 {
     let (number, rest) = bytes.split_first_chunk()?;
     Some((u16::from_le_bytes(*number), rest))
@@ -24,7 +28,7 @@ pub fn take_u16(bytes: &[u8]) -> Option<(u16, &[u8])>
 /// A number in four bytes, the lowest first.
 #[inline(always)]
 pub fn take_u32(bytes: &[u8]) -> Option<(u32, &[u8])>
-    ensures { take4 bytes.now ≡ off (λ n. n) result }
+    ensures { Takes (λ n. n < 2 ^ 32) four (λ n. n) bytes.now result }
 {
     let (number, rest) = bytes.split_first_chunk()?;
     Some((u32::from_le_bytes(*number), rest))
@@ -33,7 +37,7 @@ pub fn take_u32(bytes: &[u8]) -> Option<(u32, &[u8])>
 /// A field that is not null, after its first byte.
 #[inline(always)]
 fn take_held(code: u8, lost: bool, bytes: &[u8]) -> Option<(Field<'_>, &[u8])>
-    ensures { take_held code lost bytes.now ≡ off field_of result }
+    ensures { Takes (FieldAt code) field_bytes field_of (tag lost ∷ bytes.now) result }
 {
     let (length, rest) = take_u32(bytes)?;
     match known_buffer_size_for_ffi_type(code) {
@@ -58,7 +62,7 @@ fn take_held(code: u8, lost: bool, bytes: &[u8]) -> Option<(Field<'_>, &[u8])>
 /// A field of a column with this code. The bytes 0, 1 and 2 are the format's.
 #[inline(always)]
 pub fn take_field(code: u8, bytes: &[u8]) -> Option<(Field<'_>, &[u8])>
-    ensures { take_field code bytes.now ≡ off field_of result }
+    ensures { Takes (FieldAt code) field_bytes field_of bytes.now result }
 {
     match bytes {
         [0, rest @ ..] => Some((Field::Null, rest)),
@@ -71,7 +75,7 @@ pub fn take_field(code: u8, bytes: &[u8]) -> Option<(Field<'_>, &[u8])>
 /// A column.
 #[inline(always)]
 pub fn take_column(bytes: &[u8]) -> Option<(Column, &[u8])>
-    ensures { take_column bytes.now ≡ off (λ c. c) result }
+    ensures { Takes ColumnFits column_bytes (λ c. c) bytes.now result }
 {
     let (code, rest) = bytes.split_first()?;
     let (flags, rest) = take_u32(rest)?;
@@ -81,7 +85,7 @@ pub fn take_column(bytes: &[u8]) -> Option<(Column, &[u8])>
 /// The bytes after the fields of a row with these columns.
 #[inline(always)]
 fn skip_fields<'a>(columns: &[u8], bytes: &'a [u8]) -> Option<&'a [u8]>
-    ensures { left (take_fields (columns_in columns.now) bytes.now) ≡ option_map (λ x. x.now) result }
+    ensures { (cs : List Listed) → ColumnsIn columns.now cs → Passes (RowOf cs) (flat_map field_bytes) bytes.now result }
 {
     let mut rest = bytes;
     for column in (Columns { bytes: columns }) {
@@ -92,8 +96,7 @@ fn skip_fields<'a>(columns: &[u8], bytes: &'a [u8]) -> Option<&'a [u8]>
 
 /// An event of a recording with these columns. The bytes 0 and 1 are the format's.
 pub fn take_event<'a>(columns: &'a [u8], bytes: &'a [u8]) -> Option<(Event<'a>, &'a [u8])>
-    ensures taken { take_event (columns_in columns.now) bytes.now ≡ off event_of result }
-    ensures columned { Columned columns.now result }
+    ensures { (cs : List Listed) → ColumnsIn columns.now cs → TakesEvent cs bytes.now result }
 {
     match bytes {
         [0, bytes @ ..] => {

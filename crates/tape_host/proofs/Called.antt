@@ -1,37 +1,40 @@
 -- What a tape's calls come to.
 -- Assumes nothing.
-use Rattle.std.proofs.Common.{◌≡◌, ℕ, suc, ◌+◌, ◌<◌, ◌≤◌, min, Bool, true, false, cond, ◌&&◌, eqb, ltb, List, [], ◌∷◌, map, length, get_or, take, drop, Some, None, Option, sym, refl, ap, ◌∙◌, ⊎_elim, arith}
+use Rattle.std.proofs.Common.{◌≡◌, ℕ, suc, ◌+◌, ◌<◌, ◌≤◌, Bool, true, false, cond, ◌&&◌, ◌⊎◌, eqb, ltb, List, [], ◌∷◌, map, length, get_or, take, drop, Some, None, Option, is_some, subst, sym, refl, ap, ◌∙◌, ⊎_elim, arith}
 use Rattle.std.proofs.lemmas.List.{drop_more, drop_all}
-use Rattle.std.proofs.lemmas.Bool.{cases_lt, and_parts, eqb-true, eq-eqb, lt-ltb, le-ltb}
+use Rattle.std.proofs.lemmas.Bool.{cases_lt, and_parts, eqb-true, eq-eqb, ne_eqb, lt-ltb, le-ltb}
 use Rattle.mysql.specs.declared.bind.Column.{Column}
 use Rattle.host.specs.declared.records.BindRecord.{BindRecord}
 use Rattle.host.specs.declared.records.Report.{Report}
 use Rattle.host.specs.Meanings.{Meaning, no_column}
-use Rattle.host.specs.Calls.{in_order, all_end_by, carried, bind_error, allows, record_of, no_record, with_error, part_error, PartRefused, FailureCame}
-use Rattle.tape.specs.declared.recording.Events.{Events}
-use Rattle.tape.specs.declared.event.Event.TheVariants as view
-use Rattle.tape.specs.Views.{columns_in, event_of}
+use Rattle.host.specs.Calls.{in_order, all_end_by, carried, bind_error, allows, record_of, no_bind, with_error, part_error, PartRefused, FailureCame, EndCame, RowCame}
 use Rattle.tape.specs.Format as recorded
-use Rattle.tape.specs.declared.event.Event.{Event as EventView}
-use Rattle.tape.specs.Recordings.{GivesEvents, Stand, event_columns, events_left}
+use Rattle.tape.specs.Unique.{columns_in_one}
+use Rattle.tape.specs.declared.event.Row.{Row as RowView}
+use Rattle.std.specs.List.{flat_map}
 use Rattle.tape_host.specs.declared.current.Current.{Current}
 use Rattle.tape_host.specs.declared.tapes.Tape.{Tape}
 use Rattle.std.specs.Option.{unwrap_or}
-use Rattle.tape_host.specs.Tapes.{own_code, event_shown, columns_of, current_of, bound_if, bound_of, places_of, means}
+use Rattle.tape_host.specs.Tapes.{shown, event_shown, left_of, row_of, columns_of, current_of, bound_if, bound_of, places_of, means}
 use Rattle.tape_host.specs.Codes.{own_codes}
+use Rattle.tape_host.specs.Formeds.{left_holds, row_holds}
+use Rattle.tape_host.specs.Walks.{Asked}
+use Rattle.tape_host.specs.Wholes.{Wrote}
+use Rattle.host.specs.Fields.{Field}
+use Rattle.tape_host.proofs.Meant.{meaning_of, width_is, RowNext}
 
 -- the record of a column
 
 abbrev pub record_in : Option (List BindRecord) → ℕ → Option BindRecord
-record_in o column = elim o [ Some bs ↦ cond (ltb column (length bs)) (Some (get_or bs column no_record)) None | None ↦ None ]
+record_in o column = elim o [ Some bs ↦ cond (ltb column (length bs)) (Some (get_or bs column no_bind)) None | None ↦ None ]
 
-pub record_some : (o : Option (List BindRecord)) (column : ℕ) → column < length (unwrap_or o []) → record_in o column ≡ Some (get_or (unwrap_or o []) column no_record)
+pub record_some : (o : Option (List BindRecord)) (column : ℕ) → column < length (unwrap_or o []) → record_in o column ≡ Some (get_or (unwrap_or o []) column no_bind)
 record_some None column l = absurd (omega arith)
-record_some (Some bs) column l = ap (λ (x : Bool). cond x (Some (get_or bs column no_record)) None) (lt-ltb column (length bs) l)
+record_some (Some bs) column l = ap (λ (x : Bool). cond x (Some (get_or bs column no_bind)) None) (lt-ltb column (length bs) l)
 
 pub record_past : (o : Option (List BindRecord)) (column : ℕ) → length (unwrap_or o []) ≤ column → record_in o column ≡ None
 record_past None column l = refl
-record_past (Some bs) column l = ap (λ (x : Bool). cond x (Some (get_or bs column no_record)) None) (le-ltb column (length bs) l)
+record_past (Some bs) column l = ap (λ (x : Bool). cond x (Some (get_or bs column no_bind)) None) (le-ltb column (length bs) l)
 
 -- binding
 
@@ -83,43 +86,18 @@ module _ (t : Tape) where
       says None e = cc
       says (Some bs) e = let p = and_parts (all_end_by arena bs) (eqb reports (length cs)) e in (refl, p.0, eqb-true reports (length cs) p.1)
 
-  -- the columns stay, as events are taken off
-  module _ (after : Events) (same : after.columns.now ≡ t.events.columns.now) where
-    -- what a tape means after one more event
-    abbrev pub means_on : Option Current → ℕ → Meaning
-    means_on row error = record {
-      columns = event_columns after;
-      carries = own_code (event_columns after);
-      coming = map event_shown (events_left after);
-      current = current_of row;
-      bound = bound_of t;
-      error = error;
-    }
-
-    pub on_is : (row : Option Current) (error : ℕ)
-        → means_on row error ≡ record { columns = cs; carries = own_code cs; coming = map event_shown (events_left after); current = current_of row; bound = bound_of t; error = error }
-    on_is row error =
-        ap (λ bs. record {
-          columns = columns_in bs;
-          carries = own_code (columns_in bs);
-          coming = map event_shown (events_left after);
-          current = current_of row;
-          bound = bound_of t;
-          error = error;
-        }) same
-
-  module _ (reports : List Report) (arena : List ℕ) (ok : allows (means t) (length arena) (length reports) ≡ true) (after : Events) (same : after.columns.now ≡ t.events.columns.now) where
+  module _ (reports : List Report) (arena : List ℕ) (ok : allows (means t) (length arena) (length reports) ≡ true) where
     -- a failure is next
-    pub failure_came : (number : ℕ) → number < 65536 → events_left t.events ≡ event_of (view.Failure number) ∷ events_left after
-        → FailureCame (means t) (means_on after same None (min number 65535)) reports reports arena arena
-    failure_came number small h = record {
+    pub failure_came : (number : ℕ) (others : List recorded.Event) → (left_of t).events ≡ recorded.failure number ∷ others → (m' : Meaning)
+        → m' ≡ meaning_of (record { columns = columns_of t; events = others }) None (bound_of t) number → FailureCame (means t) m' reports reports arena arena
+    failure_came number others h m' after = record {
       allowed = ok;
       places = places_of t;
       bound = (allowed_says (length arena) (length reports) ok).bound;
       number = number;
-      rest = map event_shown (events_left after);
+      rest = map event_shown others;
       next = ap (map event_shown) h;
-      after = let e : min number 65535 ≡ number = omega arith in ap (means_on after same None) e ∙ on_is after same None number;
+      after = after;
       as_many_reports = refl;
       untouched = record { same_length = refl; same_bytes = λ p out. refl };
     }
@@ -138,13 +116,71 @@ coded_if false columns bs h = refl
 coded_if true columns bs h = h refl
 
 pub places_coded : (t : Tape) → own_codes (columns_of t) (places_of t) ≡ true
-places_coded t = coded_if t.is_bound (columns_of t) (take t.width t.records) t.coded
+places_coded t = coded_if t.is_bound (columns_of t) (take t.width t.records) (λ b. t.coded b (columns_of t) (left_holds t).columns_in)
 
--- a failure that is next is taken off
-pub failure_taken : (s s' : Events) (o : Option EventView) (n : ℕ) (es : List recorded.Event) → events_left s ≡ recorded.failure n ∷ es → GivesEvents s o s'
-    → (s'.columns.now ≡ s.columns.now) × (Stand s → Stand s') × (events_left s ≡ recorded.failure n ∷ events_left s')
-failure_taken s s' None n es h g = let z : ◌≡◌ {A = List recorded.Event} [] (recorded.failure n ∷ es) = sym g.gives.0 ∙ h in cc
-failure_taken s s' (Some e) n es h g =
-    let z : ◌≡◌ {A = List recorded.Event} (event_of e ∷ events_left s') (recorded.failure n ∷ es) = sym g.gives ∙ h in
-    let r : es ≡ events_left s' = cc in
-    (g.same_columns, g.stand, h ∙ ap (λ xs. recorded.failure n ∷ xs) r)
+-- another count of records, or places out of order
+pub bind_refused : (t : Tape) (bs : List BindRecord) → (length bs ≡ t.width → ⊥) ⊎ (in_order 0 bs ≡ false) → bind_error (means t) bs ≡ 2034
+bind_refused t bs h =
+    ⊎_elim
+    (λ (n : length bs ≡ t.width → ⊥).
+    ap (λ (x : Bool). cond (x && in_order 0 bs) (cond (carried (means t) 0 bs) 0 2036) 2034) (ne_eqb (length bs) (length (columns_of t)) (λ e. n (e ∙ sym (width_is t)))))
+    (λ (o : in_order 0 bs ≡ false).
+    ap (λ (x : Bool). cond (eqb (length bs) (length (columns_of t)) && x) (cond (carried (means t) 0 bs) 0 2036) 2034) o
+    ∙ neither (eqb (length bs) (length (columns_of t)))) h
+  where
+    neither : (b : Bool) → ◌≡◌ {A = ℕ} (cond (b && false) (cond (carried (means t) 0 bs) 0 2036) 2034) 2034
+    neither true = refl
+    neither false = refl
+
+-- a row, and the places of its columns
+
+pub some_bound : (o : Option (List BindRecord)) → 0 < length (unwrap_or o []) → is_some o ≡ true
+some_bound None l = absurd (omega arith)
+some_bound (Some bs) l = refl
+
+module _ (t : Tape) (ps : List BindRecord) (are : ps ≡ places_of t) (as_many : length ps ≡ length (columns_of t)) where
+  coded_at : own_codes (columns_of t) ps ≡ true
+  coded_at = ap (own_codes (columns_of t)) are ∙ places_coded t
+
+  pub asked_current : (c : Current) → c.row.columns.now ≡ t.events.columns.now → Asked c.row ps
+  asked_current c columned =
+      let listed = subst (λ (bs : List ℕ). recorded.ColumnsIn bs (row_of c).columns) columned (row_holds c).columns_in in
+      let same = columns_in_one t.events.columns.now (columns_of t) (row_of c).columns (left_holds t).columns_in listed in
+      record {
+        contents = row_of c;
+        shows = row_holds c;
+        as_many = as_many ∙ ap length same;
+        coded = ap (λ (cs : List Column). own_codes cs ps) (sym same) ∙ coded_at;
+      }
+
+  pub asked_next : (row : RowView) → RowNext (columns_of t) (left_of t).events row → Asked row ps
+  asked_next row next = record {
+    contents = record { columns = columns_of t; fields = next.fields; rest = flat_map recorded.event_bytes next.others };
+    shows = next.shows;
+    as_many = as_many;
+    coded = coded_at;
+  }
+
+-- what a fetch comes to
+
+module _ (t : Tape) (reports : List Report) (arena : List ℕ) (ok : allows (means t) (length arena) (length reports) ≡ true) where
+  pub end_came : (left_of t).events ≡ [] → (m' : Meaning) → m' ≡ meaning_of (record { columns = columns_of t; events = [] }) None (bound_of t) 0 → EndCame (means t) m' reports reports arena arena
+  end_came none m' after = record { allowed = ok; none_left = ap (map event_shown) none; after = after; same_reports = refl; same_arena = refl }
+
+  pub row_came : (fields : List Field) (others : List recorded.Event) → (left_of t).events ≡ recorded.row fields ∷ others → (m' : Meaning)
+      → m' ≡ meaning_of (record { columns = columns_of t; events = others }) (Some (shown fields)) (bound_of t) 0 → (truncated : Bool) (reports' : List Report) (arena' : List ℕ)
+      → length reports' ≡ length reports → Wrote fields (places_of t) reports' arena arena' truncated → RowCame truncated (means t) m' reports reports' arena arena'
+  row_came fields others next m' after truncated reports' arena' as_many w = record {
+    allowed = ok;
+    places = places_of t;
+    bound = (allowed_says t (length arena) (length reports) ok).bound;
+    fields = shown fields;
+    rest = map event_shown others;
+    next = ap (map event_shown) next;
+    after = after;
+    as_many_reports = as_many;
+    reported = w.reported;
+    stands = w.stands;
+    untouched = w.untouched;
+    marked = w.marked;
+  }

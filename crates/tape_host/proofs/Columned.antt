@@ -1,40 +1,10 @@
 -- A tape's columns, and what may be bound to them.
 -- Assumes nothing.
-use Rattle.std.proofs.Common.{◌≡◌, ℕ, Bool, ◌&&◌, eqb, List, [], ◌∷◌, map, length, None, refl, ap, arith}
+use Rattle.std.proofs.Common.{◌≡◌, Bool, ◌&&◌, eqb, List, [], ◌∷◌, length, refl, ap, arith}
 use Rattle.std.specs.List.{list_all, zip}
 use Rattle.mysql.specs.declared.bind.Column.{Column}
 use Rattle.host.specs.declared.records.BindRecord.{BindRecord}
-use Rattle.host.specs.Meanings.{Meaning}
-use Rattle.tape.specs.Format.{Contents, TapeOf}
-use Rattle.tape.specs.declared.recording.Events.{Events}
-use Rattle.tape.specs.Recordings.{event_columns, events_left}
-use Rattle.tape_host.specs.Tapes.{own_code, event_shown, Holds}
 use Rattle.tape_host.specs.Codes.{own_codes}
-
--- what a new tape means
-abbrev pub new_means : Events → Meaning
-new_means events = record {
-  columns = event_columns events;
-  carries = own_code (event_columns events);
-  coming = map event_shown (events_left events);
-  current = None;
-  bound = None;
-  error = 0;
-}
-
-pub new_holds : (bytes : List ℕ) (events : Events) (k : Contents) → event_columns events ≡ k.columns → events_left events ≡ k.events → TapeOf bytes k → Holds bytes (new_means events)
-new_holds bytes events k columned all h = record {
-  contents = k;
-  is_tape = h;
-  fresh = record {
-    columns = columned;
-    carries = ap own_code columned;
-    coming = ap (map event_shown) all;
-    no_row = refl;
-    not_bound = refl;
-    no_error = refl;
-  };
-}
 
 -- codes that are asked for, one column after the other
 abbrev pub own_pair : Column × BindRecord → Bool

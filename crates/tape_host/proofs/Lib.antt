@@ -1,4 +1,5 @@
-pub mod Columned
 pub mod Copied
-pub mod Called
 pub mod Taking
+pub mod Meant
+pub mod Columned
+pub mod Called

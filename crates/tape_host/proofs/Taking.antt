@@ -1,61 +1,73 @@
 -- A row's fields, taken off its bytes by the codes that its places ask for.
 -- Assumes nothing.
-use Rattle.std.proofs.Common.{◌≡◌, ℕ, zero, suc, ◌+◌, ◌<◌, true, eqb, List, [], ◌∷◌, length, get_or, drop, sym, refl, ap, ◌∙◌, subst, arith}
+use Rattle.std.proofs.Common.{◌≡◌, ℕ, zero, suc, ◌+◌, ◌<◌, ◌≤◌, true, eqb, List, [], ◌∷◌, ◌++◌, Some, None, Option, length, get_or, drop, sym, refl, ap, ◌∙◌, subst, arith}
+use Rattle.std.specs.Borrow.{Bor}
+use Rattle.std.specs.List.{flat_map}
+use Rattle.std.specs.Option.{unwrap_or}
 use Rattle.std.proofs.lemmas.Bool.{and_parts, eqb-true}
-use Rattle.std.proofs.lemmas.List.{drop_more}
+use Rattle.std.proofs.lemmas.List.{drop_more, drop_all, append_assoc}
 use Rattle.mysql.specs.declared.bind.Column.{Column}
 use Rattle.host.specs.declared.records.BindRecord.{BindRecord}
-use Rattle.host.specs.Fields.{Field, null}
+use Rattle.host.specs.Fields.{Field, null, FieldAt}
 use Rattle.host.specs.Meanings.{no_column}
-use Rattle.host.specs.Calls.{no_record}
-use Rattle.tape.specs.Decode.{Taken, taken, broken, take_field}
-use Rattle.tape.specs.Views.{fields_in, after_fields}
-use Rattle.tape.proofs.Stands.{after_first}
+use Rattle.host.specs.Calls.{no_bind}
+use Rattle.tape.specs.declared.field.Field.{Field as View}
+use Rattle.tape.specs.declared.event.Row.{Row}
+use Rattle.tape.specs.Format.{field_bytes, RowOf, RowContents}
+use Rattle.tape.specs.Steps.{Begins, Takes}
+use Rattle.tape.specs.Unique.{field_one, row_one}
+use Rattle.tape.specs.Views.{field_of, RowShows}
 use Rattle.tape_host.specs.Codes.{own_codes}
-use Rattle.tape_host.specs.Walks.{Left}
+use Rattle.tape_host.specs.Formeds.{fields_fit}
+use Rattle.tape_host.specs.Walks.{Left, Asked}
 
-code_at : (cs : List Column) (bs : List BindRecord) → own_codes cs bs ≡ true → (k : ℕ) → k < length bs → (get_or bs k no_record).code ≡ (get_or cs k no_column).code
+-- the field that begins bytes is the one that is taken
+pub first_taken : (code : ℕ) (bytes : List ℕ) (o : Option (View × Bor (List ℕ))) (d p : View × Bor (List ℕ)) → p ≡ unwrap_or o d → Takes (FieldAt code) field_bytes field_of bytes o
+    → (f : Field) (rest : List ℕ) → Begins (FieldAt code) field_bytes bytes f rest → (field_of p.0 ≡ f) × (p.1.now ≡ rest)
+first_taken code bytes None d p e none f rest b = absurd (none f rest b)
+first_taken code bytes (Some q) d p e took f rest b =
+    let o = field_one (field_of q.0) f q.1.now rest (took.bytes_are ∙ sym b.bytes_are) in
+    (ap (λ (x : View × Bor (List ℕ)). field_of x.0) e ∙ o.0, ap (λ (x : View × Bor (List ℕ)). x.1.now) e ∙ o.1)
+
+code_at : (cs : List Column) (bs : List BindRecord) → own_codes cs bs ≡ true → (k : ℕ) → k < length bs → (get_or bs k no_bind).code ≡ (get_or cs k no_column).code
 code_at cs [] e k l = absurd (omega arith)
 code_at [] (b ∷ bs) e k l = cc
 code_at (c ∷ cs) (b ∷ bs) e zero l = eqb-true b.code c.code (and_parts (eqb b.code c.code) (own_codes cs bs) e).0
 code_at (c ∷ cs) (b ∷ bs) e (suc k) l = code_at cs bs (and_parts (eqb b.code c.code) (own_codes cs bs) e).1 k (omega arith)
 
--- the next field, and what it leaves
-record Next (cs : List Column) (bytes : List ℕ) (k : ℕ) (rest : List ℕ) : Type 0 where
-  field : Field
-  left : List ℕ
-  taken : take_field (get_or cs k no_column).code rest ≡ taken field left
-  is : field ≡ get_or (fields_in cs bytes) k null
-  leaves : Left cs bytes (k + 1) left
+as_many_fields : (cs : List Column) (fs : List Field) → RowOf cs fs → length fs ≡ length cs
+as_many_fields [] [] h = refl
+as_many_fields [] (f ∷ fs) h = absurd h
+as_many_fields (c ∷ cs) [] h = absurd h
+as_many_fields (c ∷ cs) (f ∷ fs) h = ap suc (as_many_fields cs fs h.1)
 
-some_taken : (cs : List Column) (t : Taken Field) (f : Field) (fs : List Field) → ◌≡◌ {A = List Field} (elim t [ taken g r ↦ g ∷ fields_in cs r | broken ↦ [] ]) (f ∷ fs) → (r : List ℕ) × (t ≡ taken f r) × (fields_in cs r ≡ fs)
-some_taken cs (taken g r) f fs h = let e : g ≡ f = cc in let d : fields_in cs r ≡ fs = cc in (r, ap (λ x. taken x r) e, d)
-some_taken cs broken f fs h = cc
+module _ (row : Row) (bs : List BindRecord) (asked : Asked row bs) (r : RowContents) (shows : RowShows row r) where
+  same : asked.contents ≡ r
+  same = row_one row.columns.now row.bytes.now asked.contents r asked.shows shows
 
-next_left : (cs : List Column) (bytes : List ℕ) (k : ℕ) (rest : List ℕ) → length (fields_in cs bytes) ≡ length cs → k < length cs → Left cs bytes k rest → Next cs bytes k rest
-next_left cs bytes k rest all l left =
-    let fs = fields_in cs bytes in
-    let c = get_or cs k no_column in
-    let others = drop (k + 1) cs in
-    let split : drop k cs ≡ c ∷ others = drop_more cs k no_column l in
-    let p = some_taken others (take_field c.code rest) (get_or fs k null) (drop (k + 1) fs) (ap (λ xs. fields_in xs rest) (sym split) ∙ left.fields ∙ drop_more fs k null (omega arith)) in
-    record {
-      field = get_or fs k null;
-      left = p.0;
-      taken = p.1;
-      is = refl;
-      leaves = record {
-        fields = p.2;
-        after = sym (after_first c others rest (get_or fs k null) p.0 p.1) ∙ ap (λ xs. after_fields xs rest) (sym split) ∙ left.after;
-      };
-    }
+  pub as_many : length bs ≡ length r.columns
+  as_many = subst (λ (x : RowContents). length bs ≡ length x.columns) same asked.as_many
 
--- a field that is taken off by the code that its place asks for is the next one of the row
-module _ (cs : List Column) (bytes : List ℕ) (bs : List BindRecord) (coded : own_codes cs bs ≡ true) (as_many : length bs ≡ length cs) (all : length (fields_in cs bytes) ≡ length cs) where
-  pub field_taken : (k : ℕ) (rest : List ℕ) → k < length bs → Left cs bytes k rest → (field : Field) (after : List ℕ)
-      → ((f : Field) (r : List ℕ) → take_field (get_or bs k no_record).code rest ≡ taken f r → (field ≡ f) × (after ≡ r))
-      → (field ≡ get_or (fields_in cs bytes) k null) × Left cs bytes (k + 1) after
+  coded : own_codes r.columns bs ≡ true
+  coded = subst (λ (x : RowContents). own_codes x.columns bs ≡ true) same asked.coded
+
+  -- a field that is taken off by the code that its place asks for is the next one of the row
+  pub field_taken : (k : ℕ) (rest : List ℕ) → k < length bs → Left r k rest → (field : Field) (after : List ℕ)
+      → ((f : Field) (q : List ℕ) → Begins (FieldAt (get_or bs k no_bind).code) field_bytes rest f q → (field ≡ f) × (after ≡ q))
+      → (field ≡ get_or r.fields k null) × Left r (k + 1) after
   field_taken k rest l left field after took =
-      let n = next_left cs bytes k rest all (omega (arith, as_many)) left in
-      let t = took n.field n.left (ap (λ code. take_field code rest) (code_at cs bs coded k l) ∙ n.taken) in
-      (t.0 ∙ n.is, subst (Left cs bytes (k + 1)) (sym t.1) n.leaves)
+      let f = get_or r.fields k null in
+      let others = drop (k + 1) r.fields in
+      let split : drop k r.fields ≡ f ∷ others = drop_more r.fields k null (omega (arith, as_many, as_many_fields r.columns r.fields shows.row_of)) in
+      let t = took f (flat_map field_bytes others ++ r.rest) (record {
+        fits = subst (λ (c : ℕ). FieldAt c f) (sym (code_at r.columns bs coded k l)) (fields_fit r.columns r.fields shows.row_of k);
+        bytes_are =
+            sym (append_assoc (field_bytes f) (flat_map field_bytes others) r.rest)
+            ∙ ap (λ fs. flat_map field_bytes fs ++ r.rest) (sym split) ∙ left;
+      }) in
+      (t.0, sym t.1)
+
+  -- past the last field there is what is behind the row
+  pub left_behind : (k : ℕ) (rest : List ℕ) → length bs ≤ k → Left r k rest → rest ≡ r.rest
+  left_behind k rest l left =
+      sym left ∙ ap (λ fs. flat_map field_bytes fs ++ r.rest) (drop_all k r.fields (omega (arith, as_many, as_many_fields r.columns r.fields shows.row_of)))

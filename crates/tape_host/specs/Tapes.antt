@@ -9,8 +9,6 @@ use Rattle.host.specs.declared.records.BindRecord.{BindRecord}
 use Rattle.host.specs.Fields.{Field, null}
 use Rattle.host.specs.Meanings.{Row, Event, row, failure, Meaning, no_column}
 use Rattle.tape.specs.Format as recorded
-use Rattle.tape.specs.Views.{row_of}
-use Rattle.tape.specs.Recordings.{event_columns, events_left}
 use Rattle.tape_host.specs.declared.current.Current.{Current}
 use Rattle.tape_host.specs.declared.tapes.Tape.{Tape}
 
@@ -26,12 +24,19 @@ abbrev pub event_shown : recorded.Event → Event
 event_shown (recorded.row fs) = row (shown fs)
 event_shown (recorded.failure n) = failure n
 
+-- a tape's type has what is left of its contents, and that of a current row the row's columns and fields
+unfoldable pub left_of : Tape → recorded.Contents
+left_of t = t.left.0
+
+unfoldable pub row_of : Current → recorded.RowContents
+row_of c = c.shows.0
+
 abbrev pub columns_of : Tape → List Column
-columns_of t = event_columns t.events
+columns_of t = (left_of t).columns
 
 abbrev pub current_of : Option Current → Option Row
 current_of None = None
-current_of (Some c) = Some (shown (row_of c.row))
+current_of (Some c) = Some (shown (row_of c).fields)
 
 -- records that are bound, or not
 abbrev pub bound_if : Bool → List BindRecord → Option (List BindRecord)
@@ -49,7 +54,7 @@ abbrev pub means : Tape → Meaning
 means t = record {
   columns = columns_of t;
   carries = own_code (columns_of t);
-  coming = map event_shown (events_left t.events);
+  coming = map event_shown (left_of t).events;
   current = current_of t.current;
   bound = bound_of t;
   error = min t.error 65535;

@@ -3,12 +3,12 @@ use Rattle.std.specs.Prelude.{◌≡◌, ℕ, ◌<◌, Bool, List, length, get_o
 use Rattle.host.specs.declared.records.BindRecord.{BindRecord}
 use Rattle.host.specs.declared.records.Report.{Report}
 use Rattle.host.specs.Fields.{Field, null}
-use Rattle.host.specs.Calls.{no_record, no_report, Reported, Stands, Untouched, any_truncates}
+use Rattle.host.specs.Calls.{no_bind, no_report, Reported, Stands, Untouched, any_truncates}
 use Rattle.tape_host.specs.Tapes.{shown}
 
 -- every field stands in its place and is reported, and no byte outside the places changes
 pub record Wrote (fs : List Field) (places : List BindRecord) (reports' : List Report) (arena arena' : List ℕ) (truncated : Bool) : Type 0 where
-  pub reported : (k : ℕ) → k < length places → Reported (slice_index_or fs k null) (get_or places k no_record).capacity (slice_index_or reports' k no_report)
-  pub stands : (k : ℕ) → k < length places → Stands (slice_index_or fs k null) (get_or places k no_record).start (get_or places k no_record).capacity arena'
+  pub reported : (k : ℕ) → k < length places → Reported (slice_index_or fs k null) (get_or places k no_bind).capacity (slice_index_or reports' k no_report)
+  pub stands : (k : ℕ) → k < length places → Stands (slice_index_or fs k null) (get_or places k no_bind).start (get_or places k no_bind).capacity arena'
   pub untouched : Untouched places arena arena'
   pub marked : any_truncates (shown fs) 0 places ≡ truncated

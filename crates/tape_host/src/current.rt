@@ -1,10 +1,10 @@
 //! The current row of a tape, and how far its fields were gone through.
-ghost use Rattle.std.specs.Prelude.{◌≡◌, ◌<◌, ◌≤◌, ◌^◌, true, length, slice_index_or};
+ghost use Rattle.std.specs.Prelude.{◌≡◌, ◌<◌, ◌≤◌, length, slice_index_or};
 ghost use Rattle.host.specs.Fields.{null};
-ghost use Rattle.tape.specs.Views.{field_of, row_of, columns_in};
-ghost use Rattle.tape.specs.Recordings.{RowStands};
-ghost use Rattle.tape_host.specs.Codes.{own_codes};
-ghost use Rattle.tape_host.specs.Walks.{Left};
+ghost use Rattle.tape.specs.Format.{RowContents, RowIn};
+ghost use Rattle.tape.specs.Unique.{one_row};
+ghost use Rattle.tape.specs.Views.{field_of, RowShows};
+ghost use Rattle.tape_host.specs.Walks.{Left, Asked};
 
 use crate::write::first_field;
 use host::BindRecord;
@@ -15,17 +15,18 @@ use tape::{Field, Row};
 #[derive(Clone, Copy)]
 pub(crate) struct Current<'a> {
     pub(crate) row: Row<'a>,
-    // the bytes from the field of column `at` on
+    /// the bytes from the field of column `at` on
     pub(crate) at: usize,
     pub(crate) rest: &'a [u8],
-    ghost stands: { RowStands row },
-    ghost left: { Left (columns_in row.columns.now) row.bytes.now at rest.now },
+    // its columns and its fields
+    ghost shows: { (r : RowContents) × RowIn row.columns.now row.bytes.now r } by { one_row row.columns.now row.bytes.now },
+    ghost left: { (r : RowContents) → RowIn row.columns.now row.bytes.now r → Left r at rest.now },
 }
 
 impl<'a> Current<'a> {
     /// A row of which no field was asked for.
     pub(crate) fn new(row: Row<'a>) -> Current<'a>
-        requires { RowStands row }
+        requires { (r : RowContents) × RowShows row r }
         ensures row { result.row ≡ row.entry }
         ensures first { result.at ≡ 0 }
     {
@@ -51,9 +52,8 @@ impl<'a> Current<'a> {
     /// The field of a column, by the codes that the places ask for, and the row with its bytes from the next field on.
     pub(crate) fn field_at(self, column: usize, places: &[BindRecord]) -> (Field<'a>, Current<'a>)
         requires bound { column < length places.now }
-        requires columned { length places.now ≡ length (columns_in self.row.columns.now) }
-        requires coded { own_codes (columns_in self.row.columns.now) places.now ≡ true }
-        ensures field { field_of result.0 ≡ slice_index_or (row_of self.entry.row) column null }
+        requires asked { Asked self.row places.now }
+        ensures field { (r : RowContents) → RowShows self.entry.row r → field_of result.0 ≡ slice_index_or r.fields column null }
         ensures row { result.1.row ≡ self.entry.row }
     {
         let Current { row, at, mut rest } = self.before(column);

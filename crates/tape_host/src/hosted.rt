@@ -19,7 +19,7 @@ impl Tape<'_> {
         ensures refused { result ≡ false }
         ensures after { means self.new ≡ with_error (number_of why) (means self.old) }
     {
-        self.error = why as u16;
+        self.error = why.number();
         false
     }
 }

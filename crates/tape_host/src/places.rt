@@ -1,12 +1,12 @@
 //! Places in the arena.
 ghost use Rattle.std.specs.Prelude.{◌≡◌, true};
-ghost use Rattle.host.specs.Calls.{end, in_order, all_end_by};
+ghost use Rattle.host.specs.Calls.{place_end, in_order, all_end_by};
 
 use host::BindRecord;
 
 /// Where a place ends, which may be past the machine's word.
 fn end_of(place: BindRecord) -> u128
-    ensures { result ≡ end place }
+    ensures { result ≡ place_end place }
 {
     place.start as u128 + place.capacity as u128
 }

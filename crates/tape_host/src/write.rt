@@ -1,11 +1,11 @@
 //! Fields, written to their places and reported.
-ghost use Rattle.std.specs.Prelude.{◌≡◌, ℕ, List, ◌+◌, ◌^◌, ◌<◌, ◌≤◌, min, true, false, length, drop, slice_index};
+ghost use Rattle.std.specs.Prelude.{◌≡◌, ℕ, List, ◌+◌, ◌^◌, ◌<◌, ◌≤◌, min, true, length, drop, slice_index};
 ghost use Rattle.host.specs.Fields as recorded;
 ghost use Rattle.host.specs.Calls.{from_offset, PartReported, Stands, in_order, all_end_by};
-ghost use Rattle.tape.specs.Views.{field_of, row_of, columns_in, after_fields};
-ghost use Rattle.tape.specs.Decode.{take_field, taken};
-ghost use Rattle.tape.specs.Recordings.{RowStands};
-ghost use Rattle.tape_host.specs.Codes.{own_codes};
+ghost use Rattle.tape.specs.Format.{field_bytes, RowContents};
+ghost use Rattle.tape.specs.Steps.{Begins};
+ghost use Rattle.tape.specs.Views.{field_of, RowShows};
+ghost use Rattle.tape_host.specs.Walks.{Asked};
 ghost use Rattle.tape_host.specs.Wholes.{Wrote};
 
 use host::{BindRecord, Report};
@@ -91,7 +91,7 @@ pub(crate) fn write_field(field: Field, offset: usize, part: &mut [u8]) -> Repor
 /// The field at the front of a row's bytes, of a column with this code, and the bytes after it; null where none stands there.
 #[inline(always)]
 pub(crate) fn first_field(code: u8, bytes: &[u8]) -> (Field<'_>, &[u8])
-    ensures { (f : recorded.Field) (rest : List ℕ) → take_field code bytes.now ≡ taken f rest → (field_of result.0 ≡ f) × (result.1.now ≡ rest) }
+    ensures { (f : recorded.Field) (rest : List ℕ) → Begins (recorded.FieldAt code) field_bytes bytes.now f rest → (field_of result.0 ≡ f) × (result.1.now ≡ rest) }
 {
     take_field(code, bytes).unwrap_or((Field::Null, bytes))
 }
@@ -108,11 +108,9 @@ pub(crate) fn write_row<'a>(
     requires ordered { in_order 0 places.now ≡ true }
     requires inside { all_end_by (length arena.old) places.now ≡ true }
     requires counted { length reports.old ≡ length places.now }
-    requires columned { length places.now ≡ length (columns_in row.columns.now) }
-    requires coded { own_codes (columns_in row.columns.now) places.now ≡ true }
-    requires stands { RowStands row }
-    ensures wrote { Wrote (row_of row.entry) places.now reports.new arena.old arena.new result.0 }
-    ensures rest { result.1.now ≡ after_fields (columns_in row.entry.columns.now) row.entry.bytes.now }
+    requires asked { Asked row places.now }
+    ensures wrote { (r : RowContents) → RowShows row.entry r → Wrote r.fields places.now reports.new arena.old arena.new result.0 }
+    ensures rest { (r : RowContents) → RowShows row.entry r → result.1.now ≡ r.rest }
 {
     let mut rest = row.bytes;
     let mut truncated = false;

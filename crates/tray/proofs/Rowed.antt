@@ -7,7 +7,7 @@ use Rattle.std.proofs.lemmas.Bool.{le-leb}
 use Rattle.host.specs.declared.records.BindRecord.{BindRecord}
 use Rattle.host.specs.declared.records.Report.{Report}
 use Rattle.host.specs.Meanings.{row}
-use Rattle.host.specs.Calls.{in_order, no_record, allows, from_offset, PartReported, Stands, RowCame, record_of}
+use Rattle.host.specs.Calls.{in_order, no_bind, allows, from_offset, PartReported, Stands, RowCame, record_of}
 use Rattle.host.proofs.Written.{none_written, more_written, all_written}
 use Rattle.tray.specs.declared.tray.Tray.{Tray}
 use Rattle.tray.specs.Rows.{field_of_row, tray_row, rows_from}
@@ -18,9 +18,9 @@ use Rattle.tray.specs.Trays.{bound_to, means, Inside}
 pub record_bound : (t : Tray) (column : ℕ) → is_some t.place ≡ true → column ≡ 0 → (b : BindRecord) × (record_of (means t) column ≡ Some b)
 record_bound t column h e = bound_in t.place h
   where
-    bound_in : (o : Option BindRecord) → is_some o ≡ true → (b : BindRecord) × (elim (bound_to o) [ Some bs ↦ cond (ltb column (length bs)) (Some (get_or bs column no_record)) None | None ↦ None ] ≡ Some b)
+    bound_in : (o : Option BindRecord) → is_some o ≡ true → (b : BindRecord) × (elim (bound_to o) [ Some bs ↦ cond (ltb column (length bs)) (Some (get_or bs column no_bind)) None | None ↦ None ] ≡ Some b)
     bound_in None h = cc
-    bound_in (Some b) h = (b, ap (λ (k : ℕ). cond (ltb k 1) (Some (get_or (b ∷ []) k no_record)) None) e)
+    bound_in (Some b) h = (b, ap (λ (k : ℕ). cond (ltb k 1) (Some (get_or (b ∷ []) k no_bind)) None) e)
 
 module _ (t : Tray) (place : BindRecord) (reports : List Report) (arena part : List ℕ) (report : Report) (k : ℕ) where
   abbrev long : ℕ

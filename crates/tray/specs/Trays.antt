@@ -2,7 +2,7 @@
 use Rattle.std.specs.Prelude.{◌≡◌, ℕ, ◌+◌, ◌-◌, ◌≤◌, min, Bool, ◌&&◌, List, [], ◌∷◌, Some, None, Option, ◌==◌}
 use Rattle.host.specs.declared.records.BindRecord.{BindRecord}
 use Rattle.host.specs.Meanings.{Row, Meaning}
-use Rattle.host.specs.Calls.{end}
+use Rattle.host.specs.Calls.{place_end}
 use Rattle.tray.specs.declared.tray.Tray.{Tray}
 use Rattle.tray.specs.Rows.{tray_row, rows_from, tray_columns}
 
@@ -38,7 +38,7 @@ means t = record {
 -- a place that is bound, and lies in an arena of this length; and a report for the one column
 pub record Inside (bound : Option BindRecord) (arena reports : ℕ) (place : BindRecord) : Type 0 where
   pub is_bound : bound ≡ Some place
-  pub ends : end place ≤ arena
+  pub ends : place_end place ≤ arena
   pub one_report : reports ≡ 1
 
 -- a new tray of n rows: all to come, nothing bound, no row, no error

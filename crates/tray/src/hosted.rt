@@ -1,4 +1,4 @@
-// A tray is a host.
+//! A tray is a host.
 ghost use Rattle.std.specs.Prelude.{◌≡◌, false, is_some, IfSome};
 ghost use Rattle.host.specs.Calls.{with_error, allows, number_of};
 ghost use Rattle.tray.specs.Trays.{Inside, means};
@@ -9,11 +9,11 @@ use crate::tray::Tray;
 use host::{BindRecord, ClientError, Fetched, Host, PAST_COLUMN, Report};
 use mysql::{Column, MYSQL_TYPE_VAR_STRING};
 
-// The code of the one column, a number as in the C interface.
+/// The code of the one column, a number as in the C interface.
 const CODE: u8 = MYSQL_TYPE_VAR_STRING;
 
 impl Tray {
-    // The place of the column, where a fetch into an arena of this length, with this many reports, is allowed.
+    /// The place of the column, where a fetch into an arena of this length, with this many reports, is allowed.
     fn place_in(&self, arena: usize, reports: usize) -> Option<BindRecord>
         ensures allowed { is_some result ≡ allows (means self.now) arena reports }
         ensures inside { IfSome result (Inside self.now.place arena reports) }
@@ -23,12 +23,12 @@ impl Tray {
         })
     }
 
-    // Refuses a call, for this reason, with what a refused call answers. (A tape has the same two lines: each sets a field of its own type.)
+    /// Refuses a call, for this reason, with what a refused call answers.
     fn refuse(&mut self, why: ClientError) -> bool
         ensures refused { result ≡ false }
         ensures after { means self.new ≡ with_error (number_of why) (means self.old) }
     {
-        self.error = why as u16;
+        self.error = why.number();
         false
     }
 }

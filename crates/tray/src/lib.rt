@@ -1,4 +1,4 @@
-// A host of rows that are made by rule, to try a session on.
+//! A host of rows that are made by rule, to try a session on.
 #![tactic(auto)]
 
 mod hosted;

@@ -1,4 +1,4 @@
-// The fields of a tray's rows.
+//! The fields of a tray's rows.
 ghost use Rattle.std.specs.Prelude.{◌≡◌, ℕ, ◌+◌, ◌*◌, ◌%◌, ◌<◌, ◌≤◌, min, true, false, length, ◌==◌, slice_index, EachIndex};
 ghost use Rattle.host.specs.Calls.{from_offset, PartReported, Stands};
 ghost use Rattle.tray.specs.Rows.{size_of_row, field_of_row};
@@ -8,7 +8,7 @@ use crate::tray::Tray;
 use host::Report;
 
 impl Tray {
-    // A tray of so many rows.
+    /// A tray of so many rows.
     pub fn new(rows: u16) -> Tray
         ensures { Fresh rows (means result) }
     {
@@ -22,21 +22,21 @@ impl Tray {
     }
 }
 
-// Whether a row is null.
+/// Whether a row is null.
 fn is_null_row(k: usize) -> bool
     ensures { result ≡ (k % 5 == 3) }
 {
     k % 5 == 3
 }
 
-// How many bytes a row has. The remainder first keeps the product small.
+/// How many bytes a row has. The remainder first keeps the product small.
 fn row_size(k: usize) -> usize
     ensures { result ≡ size_of_row k }
 {
     37 * (k % 200) % 200
 }
 
-// Writes the bytes of a row, from its byte `offset` on.
+/// Writes the bytes of a row, from its byte `offset` on.
 fn write_bytes(k: usize, offset: usize, part: &mut [u8])
     ensures { EachIndex part.new (λ j. slice_index part.new j ≡ (k + (offset + j)) % 256) }
 {
@@ -45,7 +45,7 @@ fn write_bytes(k: usize, offset: usize, part: &mut [u8])
     }
 }
 
-// Writes the field of a row, from its byte `offset` on, to the part's front, as much as fits, and reports it.
+/// Writes the field of a row, from its byte `offset` on, to the part's front, as much as fits, and reports it.
 pub(crate) fn write_field(k: usize, offset: usize, part: &mut [u8]) -> Report
     ensures reported { PartReported (field_of_row k) offset (length part.old) result }
     ensures stands { Stands (from_offset offset (field_of_row k)) 0 (length part.old) part.new }

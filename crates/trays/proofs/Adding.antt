@@ -9,7 +9,7 @@ use Rattle.host.specs.Meanings as event
 use Rattle.rows.specs.declared.answers.Fetch.{Fetch}
 use Rattle.rows.specs.declared.answers.Fetch.TheVariants as fetch
 use Rattle.rows.specs.Dues as dues
-use Rattle.rows.specs.Dues.{Shown}
+use Rattle.rows.specs.Dues.{TypedBytes}
 use Rattle.session.specs.declared.state.Session.{Session}
 use Rattle.session.specs.Sessions.{row_due}
 use Rattle.going.specs.Going.{FaultOf, Going, Leaves}
@@ -42,7 +42,7 @@ module _ {H : Type 0} (means : H → Meaning) (m : Meaning) (pairs : List Column
   refused_fields (event.row x) es f answer fault = rw answer refl
   refused_fields (event.failure k) es f answer fault = rw fault refl
 
-  module _ (sums : Sums) (s s' : Session H) (a a' : List ℕ) (so_far : Along sums s a) (r : Result Fetch Fault) (w : Leaves means m pairs n r s s' a') where
+  module _ (sums : Sums) (s s' : Session H) (a a' : List ℕ) (so_far : Along sums s a) (r : Result Fetch Fault) (w : Leaves means m pairs n r s s' a a') where
     abbrev fields : Session H → Result (List Field) Fault
     fields x = fields_of pairs n (means x.host).coming
 
@@ -51,13 +51,13 @@ module _ {H : Type 0} (means : H → Meaning) (m : Meaning) (pairs : List Column
     from_here d e = so_far.ahead ∙ ap (through (λ others. so_far.seen ++ others)) e
 
     -- a row is shown, and this is read of it
-    after_row : r ≡ Ok fetch.Row → (d : Result (Option Shown) Fault) → d ≡ row_due means s' 0 → fields s ≡ before_others d (fields s')
+    after_row : r ≡ Ok fetch.Row → (d : Result (Option TypedBytes) Fault) → d ≡ row_due means s' 0 → fields s ≡ before_others d (fields s')
     after_row is d read =
         let row = w.row is in
         let due : d ≡ dues.read pairs (Some row.is) 0 = read ∙ rw (w.going.bound, row.shown) refl in
         rw (row.next, row.answer, due) refl
 
-    pub row_added : r ≡ Ok fetch.Row → (v : Option Shown) (more : Sums) → Ok v ≡ row_due means s' 0
+    pub row_added : r ≡ Ok fetch.Row → (v : Option TypedBytes) (more : Sums) → Ok v ≡ row_due means s' 0
         → ((before : List Field) → AddsUp sums before → AddsUp more (before ++ bytes_shown v ∷ [])) → Along more s' a'
     row_added is v more read adds = record {
       going = w.going;

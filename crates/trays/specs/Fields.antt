@@ -6,18 +6,18 @@ use Rattle.mysql.specs.Answers.{through, next}
 use Rattle.mysql.specs.Faults.{host_failed}
 use Rattle.host.specs.Meanings.{Event, row, failure}
 use Rattle.rows.specs.Dues as dues
-use Rattle.rows.specs.Dues.{Shown}
+use Rattle.rows.specs.Dues.{TypedBytes}
 
 -- bytes, or none where it is null
 abbrev pub Field : Type 0
 Field = Option (List ℕ)
 
-abbrev pub bytes_shown : Option Shown → Field
+abbrev pub bytes_shown : Option TypedBytes → Field
 bytes_shown None = None
 bytes_shown (Some v) = Some v.bytes
 
 -- what must be read of a row that is shown, before the others
-abbrev pub before_others : Result (Option Shown) Fault → Result (List Field) Fault → Result (List Field) Fault
+abbrev pub before_others : Result (Option TypedBytes) Fault → Result (List Field) Fault → Result (List Field) Fault
 before_others shown others = next shown (λ v. through (λ fields. bytes_shown v ∷ fields) others)
 
 -- what the first column of each row has, in order; or what the first event is refused with that is refused, or that is not read

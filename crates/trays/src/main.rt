@@ -1,5 +1,5 @@
-// Reads trays through sessions: `trays N..` fetches all rows of a tray of N rows, and prints how many there are, how many are null, how many bytes the
-// others have, and the checksum of these bytes.
+//! Reads trays through sessions: `trays N..` fetches all rows of a tray of N rows, and prints how many there are, how many are null, how many bytes the
+//! others have, and the checksum of these bytes.
 #![tactic(auto)]
 
 mod reading;
@@ -13,10 +13,10 @@ use std::process::ExitCode;
 use tray::Tray;
 use words::InWords;
 
-// The longest arena that a session takes. A row of a tray has fewer than 200 bytes.
+/// The longest arena that a session takes. A row of a tray has fewer than 200 bytes.
 const ARENA: usize = 65536;
 
-// Reads a tray to its end, and prints what it has.
+/// Reads a tray to its end, and prints what it has.
 fn print_tray(rt: &HostRuntime, rows: u16, arena: &mut [u8]) -> Result<()> {
     let Summed { host: _, sums } = read_all(Tray::new(rows), arena);
     let sums = sums.map_err(|fault| anyhow!("tray of {rows}: {}", InWords(fault)))?;
@@ -24,7 +24,7 @@ fn print_tray(rt: &HostRuntime, rows: u16, arena: &mut [u8]) -> Result<()> {
     Ok(())
 }
 
-// Reads each tray that is named, and fails where none is, or where one cannot be had.
+/// Reads each tray that is named, and fails where none is, or where one cannot be had.
 fn run(rt: &HostRuntime) -> Result<()> {
     let mut words = env::args(rt)?.skip(1).peekable();
     if words.peek().is_none() {

@@ -1,11 +1,11 @@
-// Fields, added up one by one.
+//! Fields, added up one by one.
 ghost use Rattle.std.specs.Prelude.{List, Some, None, ◌∷◌, [], ◌++◌};
 
 use checksum::Crc32;
 use std::fmt;
 
-// How many rows there are, how many of them are null, how many bytes the others have, and the checksum of these bytes. Each number stops
-// at 2^64 - 1.
+/// How many rows there are, how many of them are null, how many bytes the others have, and the checksum of these bytes. Each number stops
+/// at 2^64 - 1.
 #[derive(Clone, Copy)]
 pub struct Sums {
     pub rows: u64,
@@ -18,7 +18,7 @@ impl Sums {
     ghost use Rattle.trays.specs.Fields.{Field};
     ghost use Rattle.trays.specs.Sums.{AddsUp};
 
-    // Of no row.
+    /// Of no row.
     pub fn none() -> Sums
         ensures { AddsUp result [] }
     {
@@ -30,7 +30,7 @@ impl Sums {
         }
     }
 
-    // A null more.
+    /// A null more.
     pub fn add_null(&mut self)
         ensures { (before : List Field) → AddsUp self.old before → AddsUp self.new (before ++ None ∷ []) }
     {
@@ -38,7 +38,7 @@ impl Sums {
         self.nulls = self.nulls.saturating_add(1);
     }
 
-    // A row more that is not null.
+    /// A row more that is not null.
     pub fn add(&mut self, bytes: &[u8])
         ensures { (before : List Field) → AddsUp self.old before → AddsUp self.new (before ++ Some bytes.now ∷ []) }
     {

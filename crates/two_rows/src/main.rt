@@ -1,5 +1,5 @@
-// Shows the first two rows of a tray. What a program may not do while it holds a value of a row, nor with its slip, is tried on copies of this
-// one by tools/refused_programs.py.
+//! Shows the first two rows of a tray. What a program may not do while it holds a value of a row, nor with its slip, is tried on copies of this
+//! one by tools/refused_programs.py.
 #![tactic(auto)]
 
 use anyhow::{Result, anyhow};
@@ -10,12 +10,12 @@ use std::process::ExitCode;
 use tray::Tray;
 use words::InWords;
 
-// A fault, as the error that the program ends with.
+/// A fault, as the error that the program ends with.
 fn in_words(fault: Fault) -> anyhow::Error {
     anyhow!("{}", InWords(fault))
 }
 
-// Prints what a reading of a column shows.
+/// Prints what a reading of a column shows.
 fn print_value<R: Print>(rt: &R, value: Option<Value>) -> Result<()> {
     match value {
         Some(shown) => println!(rt; "{} bytes", shown.value().as_bytes().len())?,
@@ -24,7 +24,7 @@ fn print_value<R: Print>(rt: &R, value: Option<Value>) -> Result<()> {
     Ok(())
 }
 
-// Fetches two rows, and prints what each has in its first column.
+/// Fetches two rows, and prints what each has in its first column.
 fn print_rows<R: Print, H: Host>(rt: &R, session: &mut Session<H>, arena: &mut [u8]) -> Result<()> {
     session.fetch(arena).map_err(in_words)?;
     let first = session.read(arena, 0).map_err(in_words)?;
@@ -34,7 +34,7 @@ fn print_rows<R: Print, H: Host>(rt: &R, session: &mut Session<H>, arena: &mut [
     print_value(rt, second)
 }
 
-// Opens a session over a tray, prints its rows, and closes it with its slip.
+/// Opens a session over a tray, prints its rows, and closes it with its slip.
 fn run<R: Print>(rt: &R) -> Result<()> {
     let mut arena = [0; 256];
     let mut session = Session::new(Tray::new(2));

@@ -25,7 +25,7 @@ module _ {H W : Type 0} (means : H → Meaning) (heard : W → List Said → Typ
   refusal_said (row x) es f answer fault = rw answer refl
   refusal_said (failure k) es f answer fault = rw fault refl
 
-  module _ (s s' : Session H) (a a' : List ℕ) (w w' : W) (so_far : Along s a w) (r : Result Fetch Fault) (left : Leaves means m pairs n r s s' a') where
+  module _ (s s' : Session H) (a a' : List ℕ) (w w' : W) (so_far : Along s a w) (r : Result Fetch Fault) (left : Leaves means m pairs n r s s' a a') where
     more_said : (says : List Said) → events_said pairs n (means s.host).coming ≡ says ++ events_said pairs n (means s'.host).coming
         → ((before : List Said) → heard w before → heard w' (before ++ says)) → Along s' a' w'
     more_said says due tell = record {

@@ -5,7 +5,7 @@ use Rattle.mysql.specs.declared.bind.Column.{Column}
 use Rattle.mysql.specs.declared.fault.Fault.{Fault}
 use Rattle.host.specs.Meanings.{Row, Event, row, failure, Meaning}
 use Rattle.rows.specs.declared.answers.Fetch.{Fetch}
-use Rattle.rows.specs.Dues.{Shown, opening, fetched, read}
+use Rattle.rows.specs.Dues.{TypedBytes, opening, fetched, read}
 
 pub data Said : Type 0 where
   -- the opening was refused
@@ -13,7 +13,7 @@ pub data Said : Type 0 where
   -- a row is shown
   a_row : Said
   -- what was read of the row's next column
-  a_column : Result (Option Shown) Fault → Said
+  a_column : Result (Option TypedBytes) Fault → Said
   -- a fetch was refused
   refused : Fault → Said
   -- no event is left

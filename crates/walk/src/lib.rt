@@ -1,4 +1,4 @@
-// Going through the result that a host holds, from the opening of a session to its end.
+//! Going through the result that a host holds, from the opening of a session to its end.
 #![tactic(auto)]
 
 mod walking;

@@ -1,15 +1,15 @@
-// Refusals in words, for people who read what a program prints. It is a crate of its own since a type's `Display` is proved
-// again with each edit that its crate must refuse.
+//! Refusals in words, for people who read what a program prints. It is a crate of its own since a type's `Display` is proved
+//! again with each edit that its crate must refuse.
 #![tactic(auto)]
 
 use mysql::{Fault, HostError, Layer, NO_COLUMN, Refusal};
 use std::fmt;
 
-// A fault, a layer or a refusal, to be printed in words.
+/// A fault, a layer or a refusal, to be printed in words.
 #[derive(Clone, Copy)]
 pub struct InWords<T>(pub T);
 
-// As `refusal 10 (layer 2, session), column 1: the number lost a figure on its way into the column`.
+/// As `refusal 10 (layer 2, session), column 1: the number lost a figure on its way into the column`.
 impl fmt::Display for InWords<Fault> {
     fn fmt<W: fmt::Write>(&self, f: &mut fmt::Formatter<W>) -> fmt::Result {
         let fault = self.0;
@@ -18,7 +18,7 @@ impl fmt::Display for InWords<Fault> {
             f,
             "refusal {} (layer {}, {})",
             fault.number(),
-            layer as u8,
+            layer.number(),
             InWords(layer)
         )?;
         let column = fault.column();

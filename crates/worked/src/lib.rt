@@ -1,4 +1,4 @@
-// Worked examples of the rules, proved as one table. The function does nothing: its contract is the table.
+//! Worked examples of the rules, proved as one table. The function does nothing: its contract is the table.
 #![tactic(auto)]
 
 ghost use Rattle.worked.specs.Examples.{WorkedExamples};

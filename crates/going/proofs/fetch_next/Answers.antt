@@ -2,8 +2,8 @@ use Rattle.std.proofs.Common.{◌≡◌, length, rules}
 use Rattle.going.proofs.Fetched.{left}
 use Rattle.going.proofs.fetch_next.Goals as goal
 
-pub returns : goal.returns
-returns g c m pairs n going =
+pub returns-clause-goes : goal.returns-clause-goes
+returns-clause-goes g c m pairs n going =
     let s' = c.fetch.new.self in let a' = c.fetch.new.arena in
     let long : length a' ≡ length c.args.arena.now = search rules in
     let e = c.fetch.ensures in let now = going.now in

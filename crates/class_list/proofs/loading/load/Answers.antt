@@ -1,16 +1,19 @@
-use Rattle.std.proofs.Common.{◌≡◌, ◌≤◌, length, rules, arith}
-use Rattle.std.proofs.lemmas.Bool.{le-ltb}
-use Rattle.going.proofs.Opened.{due_of_opening}
-use Rattle.class_list.specs.Loads.{ListsTo}
+use Rattle.std.proofs.Common.{Bool, [], length, map, sym, ap, ◌∙◌, subst, vec_items}
+use Rattle.class_list.specs.Lists.{lines_in, listed}
+use Rattle.class_list.specs.Loads.{HoldsIf, LoadsAs}
+use Rattle.class_list.specs.Told as held
+use Rattle.class_list.proofs.Collecting.{not_listed, cut_short, whole}
 use Rattle.class_list.proofs.loading.load.Goals as goal
+use Rattle.class_list.proofs.loading.load.Goals.{in-Err, in-Ok, in-Ok-2}
 
-pub returns-in-Ok-clause-lines : goal.returns-in-Ok-clause-lines
-returns-in-Ok-clause-lines g c =
-    let means = g.H.Host.meaning in
-    let a = c.args.arena.now in let a' = c.open.new.arena in
-    let long : length a' ≡ length a = search rules in
-    let many : 3 ≤ length (means c.args.host).columns = omega (arith, c.column_count-columns.ensures) in
-    let lines = c.all_lines-lines in
-    rw (le-ltb (length (means c.args.host).columns) 3 many)
-    (due_of_opening means c.new-session.result c.open.new.self a a' long (λ due n coming. ListsTo due n coming lines.result) c.args.host c.in-Ok.slip c.args.wanted.now
-    c.new-session.ensures.host c.new-session.ensures.unopened c.in-Ok.ensures.after lines.ensures.lines)
+pub returns-clause-lines : goal.returns-clause-lines
+returns-clause-lines g c =
+    let told = c.tell_lines-host in
+    let all = listed (g.H.Host.meaning c.args.host) (length c.args.arena.now) c.args.wanted.now in
+    let lines = vec_items told.new.listener.lines in
+    let heard : HoldsIf told.new.listener.is_full lines (lines_in all) = told.ensures.lines [] (ap (map held.told) c.new.ensures.items) in
+    elim c.match-outcome.branch [
+      | in-Err w ↦ subst (LoadsAs all lines) (sym w.outcome-is) (not_listed lines all told.new.listener.is_full w.in-Err.error (sym w.in-Err.is ∙ told.ensures.outcome) heard)
+      | in-Ok w ↦ subst (LoadsAs all lines) (sym w.outcome-is) (cut_short lines all (sym w.in-Ok.is ∙ told.ensures.outcome) (subst (λ (b : Bool). HoldsIf b lines (lines_in all)) w.if-is_full.true heard))
+      | in-Ok-2 w ↦ subst (LoadsAs all lines) (sym w.outcome-is) (whole lines all (sym w.in-Ok.is ∙ told.ensures.outcome) (subst (λ (b : Bool). HoldsIf b lines (lines_in all)) w.if-is_full.false heard))
+    ]

@@ -1,25 +1,16 @@
-use Rattle.std.proofs.Common.{arith, rules}
-use Rattle.std.proofs.lemmas.Int.{ints}
-use Rattle.numeric.proofs.Scan.{parsed, unparsed, limited_in, limited_low, limited_high}
+use Rattle.std.proofs.Common.{Err, sym, ap, ◌∙◌, rules}
+use Rattle.numeric.specs.Decimals.{positive, negative}
+use Rattle.numeric.proofs.Scan.{minus_at, plus_at, bare_at, empty_at}
 use Rattle.numeric.proofs.decimal.integer_part.Goals as goal
-use Rattle.numeric.proofs.decimal.integer_part.Goals.{in_default-via-in-Ok+then-half-from+else-from-half, in_default-via-in-Ok+else-half-from, in_default-via-in_default}
 
-pub returns-in-Ok : goal.returns-in-Ok
-returns-in-Ok c =
-    let l = limited_in c.args.half c.in-Ok.x (omega (arith, ints)) (omega (arith, ints)) in
-    let p = parsed c.args.half c.args.text.now c.in-Ok.x c.requires.low c.in-Ok.ensures.value.0 in
-    record { is = search rules; inside = search rules }
+pub returns-in-45 : goal.returns-in-45
+returns-in-45 c = c.negated.ensures ∙ ap negative c.magnitude.ensures ∙ sym (minus_at c.args.half c.args.text.now (search rules) (search rules))
 
-pub returns-in_default-clause-is : goal.returns-in_default-clause-is
-returns-in_default-clause-is c =
-    elim c.in_default.branch [
-      | in_default-via-in-Ok+then-half-from+else-from-half w ↦
-          let l = limited_high c.args.half w.in-Ok.x (omega (arith, ints)) in
-          let p = parsed c.args.half c.args.text.now w.in-Ok.x c.requires.low w.in-Ok.ensures.value.0 in
-          cc
-      | in_default-via-in-Ok+else-half-from w ↦
-          let l = limited_low c.args.half w.in-Ok.x (omega (arith, ints)) in
-          let p = parsed c.args.half c.args.text.now w.in-Ok.x c.requires.low w.in-Ok.ensures.value.0 in
-          cc
-      | in_default-via-in_default w ↦ let p = unparsed c.args.half c.args.text.now c.requires.high w.in_default.ensures.value.0 in cc
-    ]
+pub returns-in-43 : goal.returns-in-43
+returns-in-43 c = c.plain.ensures ∙ ap positive c.magnitude-in-43.ensures ∙ sym (plus_at c.args.half c.args.text.now (search rules) (search rules))
+
+pub returns-in_default : goal.returns-in_default
+returns-in_default c = c.plain-in_default.ensures ∙ ap positive c.magnitude-in_default.ensures ∙ sym (bare_at c.args.half c.args.text.now (λ e. search rules) (λ e. search rules))
+
+pub returns-in-empty : goal.returns-in-empty
+returns-in-empty c = ap Err c.new.ensures ∙ sym (empty_at c.args.half c.args.text.now (search rules))

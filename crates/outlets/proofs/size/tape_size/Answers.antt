@@ -1,15 +1,16 @@
-use Rattle.std.proofs.Common.{length, ap, ◌∙◌}
-use Rattle.std.proofs.lemmas.Iterator.Consumers.{count_from_yields_List, YieldsList-from_shown}
-use Rattle.tape.specs.Views.{event_of}
-use Rattle.tape.specs.Recordings.{GivesEvents, contents, events_left}
+use Rattle.std.proofs.Common.{◌∙◌}
+use Rattle.std.proofs.lemmas.Iterator.Consumers.{count_from_yields_List}
+use Rattle.std.proofs.lemmas.List.{length-map}
+use Rattle.tape.specs.Recordings.{contents}
+use Rattle.tape.proofs.Yielded.{one, events_yielded}
 use Rattle.outlets.proofs.size.tape_size.Goals as goal
 
 pub returns : goal.returns
 returns c =
-    let shown = YieldsList-from_shown GivesEvents event_of events_left (λ s t h. ap length h.gives.0) (λ s x t h. h.gives) c.events.result in
+    let t = contents c.in_ok-recording.recording in
     record {
-      contents = contents c.in_ok-recording.recording;
-      is_tape = c.in_ok-recording.ensures;
-      columns = c.len.ensures ∙ ap length c.columns.ensures.all;
-      events = count_from_yields_List c.events.result c.count.result c.count.ensures.ran shown ∙ ap length c.events.ensures.all;
+      contents = t;
+      is_tape = c.in_ok-recording.ensures.opened;
+      columns = c.len.ensures.counted t.columns c.columns.ensures;
+      events = count_from_yields_List c.events.result c.count.result c.count.ensures.ran (events_yielded c.events.result t c.events.ensures) ∙ length-map t.events one;
     }

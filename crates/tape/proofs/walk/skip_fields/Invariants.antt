@@ -1,9 +1,9 @@
-use Rattle.std.proofs.Common.{◌≡◌}
-use Rattle.tape.specs.Decode.{left, take_fields}
-use Rattle.tape.specs.Views.{columns_in}
-use Rattle.tape.specs.Recordings.{columns_left}
+use Rattle.std.proofs.Common.{List}
+use Rattle.mysql.specs.declared.bind.Column.{Column}
+use Rattle.tape.specs.Format.{ColumnsIn}
+use Rattle.tape.proofs.Walked.{FieldsWalked}
 use Rattle.tape.proofs.walk.skip_fields.Given as goal
 
--- what the row's fields leave is what the fields still to come leave
+-- the fields still to come are those of the columns still to come
 abbrev pub invariant-loop-column : goal.invariant-loop-column
-invariant-loop-column l = left (take_fields (columns_in l.columns) l.bytes) ≡ left (take_fields (columns_left l.column-iterator) l.rest)
+invariant-loop-column l = (cs : List Column) → ColumnsIn l.columns cs → FieldsWalked cs l.bytes l.column-iterator.bytes.now l.rest

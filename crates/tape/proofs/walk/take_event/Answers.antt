@@ -1,10 +1,19 @@
-use Rattle.std.proofs.Common.{◌∙◌, rules}
-use Rattle.tape.specs.Views.{columns_in}
-use Rattle.tape.proofs.Walked.{tail, event_tag, row_taken}
+use Rattle.std.proofs.Common.{◌∷◌, sym, refl, ap, ◌∙◌, rules, arith}
+use Rattle.tape.specs.Format.{row, failure}
+use Rattle.tape.proofs.Tagged.{first_and_tail}
 use Rattle.tape.proofs.walk.take_event.Goals as goal
 
-pub returns-in_ok-rest-in-0-clause-taken : goal.returns-in_ok-rest-in-0-clause-taken
-returns-in_ok-rest-in-0-clause-taken c =
-    let cs = columns_in c.args.columns.now in
-    event_tag cs 0 c.args.bytes.now (search rules) (search rules)
-    ∙ row_taken cs (tail c.args.bytes.now) c.in_ok-rest-in-0.rest.now c.in_ok-rest-in-0.ensures
+pub returns-in_ok-rest-in-0 : goal.returns-in_ok-rest-in-0
+returns-in_ok-rest-in-0 c = λ cs h.
+    let p = c.in_ok-rest-in-0.ensures cs h in
+    let first = first_and_tail 0 c.args.bytes.now (search rules) (search rules) in
+    (row p.0, record { fits = p.1.fits; bytes_are = ap (λ u. 0 ∷ u) p.1.bytes_are ∙ sym first }, record { columns_in = h; row_of = p.1.fits; bytes_are = p.1.bytes_are })
+
+pub returns-else-number-eq-NO_FAILURE : goal.returns-else-number-eq-NO_FAILURE
+returns-else-number-eq-NO_FAILURE c = λ cs h.
+    let n = c.in_ok-number-in-1.number in
+    let b = c.in_ok-number-in-1.ensures in
+    let first = first_and_tail 1 c.args.bytes.now (search rules) (search rules) in
+    let some = c.if-number-eq-NO_FAILURE.false in
+    let few = b.fits in
+    (failure n, record { fits = (omega arith, omega arith); bytes_are = ap (λ u. 1 ∷ u) b.bytes_are ∙ sym first }, refl)

@@ -4,4 +4,4 @@ use Rattle.answers.proofs.Snocs.{told}
 use Rattle.answers.proofs.tapes.TextWatch.null.Goals as goal
 
 pub returns : goal.returns
-returns c = told c.part.result _ _ (a_column (Ok None)) c.part.ensures
+returns c = told _ c.part.new.self (a_column (Ok None)) c.part.ensures

@@ -3,4 +3,4 @@ use Rattle.answers.proofs.Snocs.{told}
 use Rattle.answers.proofs.tapes.TextWatch.row.Goals as goal
 
 pub returns : goal.returns
-returns c = told c.part.result _ _ a_row c.part.ensures
+returns c = told _ c.part.new.self a_row c.part.ensures

@@ -4,4 +4,4 @@ use Rattle.answers.proofs.Snocs.{told}
 use Rattle.answers.proofs.tapes.TextWatch.unread.Goals as goal
 
 pub returns : goal.returns
-returns c = told c.reading_refused.result _ _ (a_column (Err c.args.fault)) c.reading_refused.ensures
+returns c = told _ c.reading_refused.new.self (a_column (Err c.args.fault)) c.reading_refused.ensures

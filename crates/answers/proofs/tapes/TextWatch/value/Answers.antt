@@ -4,4 +4,4 @@ use Rattle.answers.proofs.Snocs.{told}
 use Rattle.answers.proofs.tapes.TextWatch.value.Goals as goal
 
 pub returns : goal.returns
-returns c = told c.typed_bytes.result _ _ (a_column (Ok (Some (record { tpe = c.args.value.tpe; bytes = c.args.value.raw.now })))) c.typed_bytes.ensures
+returns c = told _ c.typed_bytes.new.self (a_column (Ok (Some (record { tpe = c.args.value.tpe; bytes = c.args.value.raw.now })))) c.typed_bytes.ensures

@@ -1,9 +1,9 @@
 use Rattle.std.proofs.Common.{◌≡◌, ℕ, ◌+◌, ◌<◌, List, [], ◌∷◌, ◌++◌, map, length, take, get_or, set, sym, ap, ◌∙◌, arith, length-set}
-use Rattle.std.proofs.lemmas.List.{take_more_set, map_more}
+use Rattle.std.proofs.lemmas.List.{take_more_set, map_more, drop-set-lt}
 use Rattle.host.specs.declared.records.BindRecord.{BindRecord}
 use Rattle.layout.specs.declared.record.ColumnRecord.{ColumnRecord}
 use Rattle.layout.specs.Columns.{bind_of, no_record}
-use Rattle.layout.specs.Tables.{items}
+use Rattle.layout.specs.Tables.{items, count_of}
 use Rattle.layout.proofs.Spans.{count_is}
 use Rattle.layout.proofs.table.ColumnTable.write_binds.Goals as goal
 
@@ -17,4 +17,5 @@ loop-i-preserved c =
     record {
       long = length-set bs i _ ∙ inv.long;
       told = told_more (items c.args.self.now) bs i c.from.result l (omega (arith, l, inv.long, count_is c.args.self.now, c.args.self.now.few)) (c.from.ensures ∙ ap (λ z. bind_of (get_or z i no_record)) e) inv.told;
+      rest = drop-set-lt (count_of c.args.self.now) bs i _ l ∙ inv.rest;
     }

@@ -1,4 +1,6 @@
-use Rattle.std.proofs.Common.{◌≡◌, length, refl, rules}
+use Rattle.std.proofs.Common.{◌≡◌, length, refl, arith, rules}
+use Rattle.std.proofs.lemmas.List.{get_or_append_left}
+use Rattle.host.specs.Calls.{no_report}
 use Rattle.session.specs.Sessions.{session_of}
 use Rattle.session.proofs.Fetches.{failure_came, failure_answer, failure_after, row_came, row_got, row_answered, row_after}
 use Rattle.session.proofs.state.Opened.populate_row_buffers.Goals as goal
@@ -33,8 +35,8 @@ returns-in-Row g c =
     record {
       answer = λ sound.
           let got = row_got m s sound a p came.0 m' _ rs' a' w formed (search rules) same in
-          row_answered m s sound a p came.0 m' _ rs' a' w formed (search rules) same _ o c.settle.new.host rs' c.settle.new.spare m'' c.settle.new.arena refl c.settle.result (c.settle.ensures w.fields got);
+          row_answered m s sound a p came.0 m' _ rs' a' w formed (search rules) same _ o c.settle.new.host rs' c.settle.new.spare m'' c.settle.new.arena refl (λ k l. refl) c.settle.result (c.settle.ensures w.fields got);
       after = λ sound.
           let got = row_got m s sound a p came.0 m' _ rs' a' w formed (search rules) same in
-          row_after m s sound a p came.0 m' _ rs' a' w formed (search rules) same _ o c.settle.new.host _ c.settle.new.spare m'' c.settle.new.arena refl c.settle.result (c.settle.ensures w.fields got);
+          row_after m s sound a p came.0 m' _ rs' a' w formed (search rules) same _ o c.settle.new.host _ c.settle.new.spare m'' c.settle.new.arena refl (λ k l. get_or_append_left rs' _ no_report k (omega (arith, got.as_many))) c.settle.result (c.settle.ensures w.fields got);
     }

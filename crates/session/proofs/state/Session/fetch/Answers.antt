@@ -1,4 +1,4 @@
-use Rattle.std.proofs.Common.{◌≡◌, length, Some, Ok, sym, refl, ap, ◌∙◌, subst}
+use Rattle.std.proofs.Common.{◌≡◌, length, is_some, Some, Ok, sym, refl, ap, ◌∙◌, subst}
 use Rattle.std.proofs.lemmas.Result.{err_from_is_err_and}
 use Rattle.std.specs.Option.{option_copied_mut}
 use Rattle.rows.specs.Dues.{fetched}
@@ -20,7 +20,9 @@ returns-in_err-check g c =
     let r = err_from_is_err_and c.from_residual-in_err-check.result c.from_residual-in_err-check.ensures.1 in
     record {
       answer = λ sound. rw (r.1, r.2) (sym (refused_past s a tt (fetched (pairs_of (table_of s)) (length a) m.coming) c.in_err-check.field-0.0 e));
+      refused = λ p. rw (r.1, r.2) (sym (refused_past s a tt (fetched (pairs_of (table_of s)) (length a) m.coming) c.in_err-check.field-0.0 e));
       unchecked = λ p. record { same = parts s o is; same_arena = refl };
+      opened = sym (ap is_some is);
       after = λ sound p. not_both (passes s a) p (not_passed s a tt tt c.in_err-check.field-0.0 e);
       sound = λ sound. subst (IsSound g.H.Host.meaning) (sym (parts s o is)) sound;
       holds = λ sound holds. subst (λ (z : Session _). HoldsRow g.H.Host.meaning z a) (sym (parts s o is)) holds;
@@ -40,7 +42,9 @@ returns g c =
     λ sound. subst (λ (z : Session _). Fetches g.H.Host.meaning x z s' a a') (parts s o is) (c.populate_row_buffers.ensures.after (first sound)) in
     record {
       answer = λ sound. c.populate_row_buffers.ensures.answer (first sound) ∙ ap (λ (z : Session _). fetch_due g.H.Host.meaning z a) (parts s o is);
+      refused = λ q. not_both (passes s a) p q;
       unchecked = λ q. not_both (passes s a) p q;
+      opened = sym (ap is_some is);
       after = λ sound q. w sound;
       sound = λ sound. after_sound m m' s s' sound a p a' m.coming x (w sound);
       holds = λ sound holds. after_holds m m' s s' a a' m.coming x (w sound);

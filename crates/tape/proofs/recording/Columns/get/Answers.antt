@@ -1,33 +1,25 @@
-use Rattle.std.proofs.Common.{◌*◌, Some, sym, ap, ◌∙◌, arith}
-use Rattle.std.proofs.lemmas.List.{take_rest}
-use Rattle.std.proofs.lemmas.Option.{slice_get-get_or, slice_get_past}
-use Rattle.host.specs.Meanings.{no_column}
-use Rattle.tape.specs.Decode.{take_column}
-use Rattle.tape.specs.Views.{columns_in}
-use Rattle.tape.proofs.Counted.{columns_count, column_at, column_none}
+use Rattle.std.proofs.Common.{◌*◌, length, drop, ap, ◌∙◌, subst, arith}
+use Rattle.std.proofs.lemmas.List.{take_rest, length-drop}
+use Rattle.host.specs.Meanings.{ColumnFits}
+use Rattle.tape.specs.Format.{column_bytes}
+use Rattle.tape.specs.Steps.{Begins, NoneBegins}
+use Rattle.tape.proofs.Columned.{column_some, column_none, columns_behind, get_behind}
 use Rattle.tape.proofs.recording.Columns.get.Goals as goal
 
-pub returns-then-i-len : goal.returns-then-i-len
-returns-then-i-len c = sym (slice_get_past (columns_in c.args.self.now.bytes.now) c.args.i (omega (arith, c.len.ensures)))
-
-pub overflow_mul-i : goal.overflow_mul-i
-overflow_mul-i c = omega (arith, columns_count c.args.self.now.bytes.now, c.len.ensures)
-
-pub slice_bounds-take_column-count : goal.slice_bounds-take_column-count
-slice_bounds-take_column-count c = omega (arith, columns_count c.args.self.now.bytes.now, c.len.ensures)
-
-pub slice_bounds-take_column-start : goal.slice_bounds-take_column-start
-slice_bounds-take_column-start c = omega (arith, columns_count c.args.self.now.bytes.now, c.len.ensures)
-
 pub returns-in_err-found : goal.returns-in_err-found
-returns-in_err-found c =
-    let bs = c.args.self.now.bytes.now in
-    let none = column_none c.args.i bs (ap take_column (sym (take_rest bs (5 * c.args.i))) ∙ c.in_err-found.ensures) in
-    absurd (omega (arith, none, c.len.ensures))
-
-pub returns : goal.returns
-returns c =
+returns-in_err-found c = λ cs h.
     let bs = c.args.self.now.bytes.now in
     let i = c.args.i in
-    let found = column_at i bs c.in_ok-found.found _ (ap take_column (sym (take_rest bs (5 * i))) ∙ c.in_ok-found.ensures) in
-    sym (slice_get-get_or (columns_in bs) i no_column (omega (arith, c.len.ensures)) ∙ ap Some found)
+    let l = c.len.ensures.counted cs h in
+    let none = subst (NoneBegins ColumnFits column_bytes) (take_rest bs (5 * i)) c.in_err-found.ensures in
+    absurd (omega (arith, length-drop i cs, ap length (column_none (drop (5 * i) bs) (drop i cs) (columns_behind i bs cs (omega arith) h) none)))
+
+pub returns : goal.returns
+returns c = λ cs h.
+    let bs = c.args.self.now.bytes.now in
+    let i = c.args.i in
+    let l = c.len.ensures.counted cs h in
+    let found = c.in_ok-found.found in
+    let rest = c.in_ok-found.field-0-1.now in
+    let begins = subst (λ b. Begins ColumnFits column_bytes b found rest) (take_rest bs (5 * i)) c.in_ok-found.ensures in
+    (column_some (drop (5 * i) bs) (drop i cs) found rest (columns_behind i bs cs (omega arith) h) begins).0 ∙ get_behind i cs

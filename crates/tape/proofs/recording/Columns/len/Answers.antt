@@ -1,6 +1,6 @@
-use Rattle.std.proofs.Common.{sym}
-use Rattle.tape.proofs.Counted.{columns_count}
+use Rattle.std.proofs.Common.{arith}
+use Rattle.tape.proofs.Columned.{columns_count}
 use Rattle.tape.proofs.recording.Columns.len.Goals as goal
 
-pub returns : goal.returns
-returns c = sym (columns_count c.args.self.now.bytes.now)
+pub returns-clause-counted : goal.returns-clause-counted
+returns-clause-counted c = λ cs h. omega (arith, columns_count c.args.self.now.bytes.now cs h)

@@ -1,10 +1,11 @@
-use Rattle.std.proofs.Common.{◌≡◌, ◌-◌}
-use Rattle.tape.specs.Decode.{left, take_events}
-use Rattle.tape.specs.Views.{columns_in}
+use Rattle.std.proofs.Common.{List, ◌-◌}
+use Rattle.mysql.specs.declared.bind.Column.{Column}
+use Rattle.tape.specs.Format.{event_bytes, EventsOf, ColumnsIn}
+use Rattle.tape.proofs.Walked.{Walk}
 use Rattle.tape.proofs.recording.Events.end.Given as goal
 
--- what the events leave is what the events still to come leave
+-- the events still to come are those that are not counted yet
 abbrev pub invariant-loop : goal.invariant-loop
 invariant-loop l =
-    left (take_events (columns_in l.self.columns.now) l.self.count l.self.bytes.now)
-    ≡ left (take_events (columns_in l.self.columns.now) (l.self.count - l.counter) l.rest)
+    (cs : List Column) → ColumnsIn l.self.columns.now cs
+    → Walk (EventsOf cs l.self.count) (EventsOf cs (l.self.count - l.counter)) event_bytes l.self.bytes.now l.rest
