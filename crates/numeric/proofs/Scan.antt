@@ -4,8 +4,8 @@ use Rattle.std.proofs.Common.{◌≡◌, ℕ, zero, suc, ◌+◌, ◌-◌, ◌*�
 use Rattle.std.proofs.lemmas.List.{drop_more, drop_all, take_rest}
 use Rattle.std.proofs.lemmas.Bool.{le-leb, lt-leb, lt-ltb, eq-eqb, ne_eqb}
 use Rattle.std.proofs.lemmas.Bool.Decides.{nat_tests, leb_tells, eqb_tells}
-use Rattle.std.specs.List.{count_by}
-use Rattle.std.proofs.lemmas.List.Recursion.{is_count_by}
+use Rattle.std.specs.List.{sum_by}
+use Rattle.std.proofs.lemmas.List.Recursion.{is_sum_by}
 use Rattle.mysql.specs.Faults.{refused}
 use Rattle.mysql.specs.declared.fault.Refusal.TheVariants.{InvalidInteger}
 use Rattle.numeric.specs.Decimals.{dots, before_dot, digit, digits, numeral, value_from, natural, integer_text, positive, negative}
@@ -83,12 +83,20 @@ none_at_other limit (x ∷ xs) h o =
 
 -- dots
 
-counted : (t : Bool) (n : ℕ) → cond t 1 0 + n ≡ cond t (1 + n) n
-counted true n = refl
-counted false n = omega arith
+-- one for a dot
+abbrev pub dot_count : ℕ → ℕ
+dot_count b = cond (eqb b 46) 1 0
 
-pub dots_are : (bs : List ℕ) → dots bs ≡ count_by (λ b. eqb b 46) bs
-dots_are = is_count_by dots (λ b. eqb b 46) refl (λ b bs. counted (eqb b 46) (dots bs))
+pub dots_are : (bs : List ℕ) → dots bs ≡ sum_by dot_count bs
+dots_are = is_sum_by dots dot_count refl (λ b bs. refl)
+
+one_at_most : (t : Bool) (n m : ℕ) → n ≤ m → cond t 1 0 + n ≤ suc m
+one_at_most true n m h = omega arith
+one_at_most false n m h = omega arith
+
+pub dots_few : (bs : List ℕ) → dots bs ≤ length bs
+dots_few [] = omega arith
+dots_few (b ∷ bs) = one_at_most (eqb b 46) (dots bs) (length bs) (dots_few bs)
 
 -- the sign, and what follows it as a pattern cuts it
 

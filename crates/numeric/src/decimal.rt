@@ -18,7 +18,7 @@ fn is_utf8(bytes: &[u8]) -> bool
 fn count_dots(bytes: &[u8]) -> usize
     ensures { result ≡ dots bytes.now }
 {
-    bytes.iter().filter(|b| **b == b'.').count()
+    bytes.iter().map(|b| usize::from(*b == b'.')).sum()
 }
 
 /// The number that the digits before the first dot write, where it is at most `limit`.

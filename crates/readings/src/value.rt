@@ -5,7 +5,7 @@ ghost use Rattle.std.proofs.Common.{to_z};
 ghost use Rattle.std.specs.Int.{w8, w16, w32, w64};
 ghost use Rattle.mysql.specs.Answers.{through};
 ghost use Rattle.readings.specs.Bytes.{le, prefix};
-ghost use Rattle.readings.specs.Values.{Holds};
+ghost use Rattle.readings.specs.Values.{Holds, representation};
 
 use mysql::{Fault, MysqlType, Refusal};
 use std::num::{f32_from_bits_with_nan, f64_from_bits_with_nan};
@@ -55,7 +55,8 @@ impl<'a> MysqlValue<'a> {
 
     /// The number that the value holds, where its type is one of numbers.
     pub fn numeric_value(&self) -> Result<NumericRepresentation<'a>, Fault>
-        ensures { Holds self.now.tpe self.now.raw result }
+        ensures holds { Holds self.now.tpe self.now.raw result }
+        ensures exact { result ≡ representation self.now.tpe self.now.raw }
     {
         let raw = self.raw;
         Ok(match self.tpe {

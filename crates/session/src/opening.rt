@@ -33,8 +33,10 @@ fn bound_columns<H: Host>(
 {
     let mut pairs = ArrayVec::new();
     for i in 0..host.column_count() {
-        let (code, flags) = bound_column(host, wanted, i).map_err(|fault| fault.at(i as u8))?;
-        pairs.push(Column { code, flags });
+        match bound_column(host, wanted, i) {
+            Ok((code, flags)) => pairs.push(Column { code, flags }),
+            Err(fault) => return Err(fault.at(i as u8)),
+        }
     }
     Ok(pairs)
 }

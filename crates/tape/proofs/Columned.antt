@@ -1,11 +1,13 @@
 -- Columns, gone through one after the other.
 -- Assumes nothing.
-use Rattle.std.proofs.Common.{◌≡◌, ℕ, zero, suc, ◌*◌, ◌≤◌, List, [], ◌∷◌, length, drop, Some, None, Option, sym, refl, ap, ◌∙◌, subst, arith}
+use Rattle.std.proofs.Common.{◌≡◌, ℕ, zero, suc, ◌*◌, ◌≤◌, List, [], ◌∷◌, ◌++◌, length, drop, Some, None, Option, sym, refl, ap, ◌∙◌, subst, arith}
+use Rattle.std.proofs.lemmas.List.{append-nil, append_assoc}
 use Rattle.std.specs.List.{flat_map, slice_get}
 use Rattle.mysql.specs.declared.bind.Column.{Column}
 use Rattle.host.specs.Meanings.{ColumnFits}
 use Rattle.tape.specs.Format.{column_bytes, ColumnsIn}
 use Rattle.tape.specs.Steps.{Begins, NoneBegins}
+use Rattle.tape.specs.Views.{ColumnsFrom}
 use Rattle.tape.specs.Unique.{column_one, columns_long}
 
 pub columns_count : (bs : List ℕ) (cs : List Column) → ColumnsIn bs cs → length bs ≡ length cs * 5
@@ -25,6 +27,27 @@ pub column_end : (bs : List ℕ) (cs : List Column) → ColumnsIn bs cs → None
 column_end bs cs h none =
     let e = column_none bs cs h none in
     (ap (λ (xs : List Column). slice_get xs 0) (sym e), subst (ColumnsIn bs) (e ∙ ap (drop 1) (sym e)) h)
+
+-- any bytes, as far as columns begin them
+
+pub all_from : (bs : List ℕ) (cs : List Column) → ColumnsIn bs cs → ColumnsFrom bs cs
+all_from bs cs h = record {
+  behind = [];
+  bytes_are = append-nil (flat_map column_bytes cs) ∙ h.bytes_are;
+  fit = h.fit;
+  over = λ c rest b. absurd (omega (arith, ap length b.bytes_are));
+}
+
+pub from_some : (bs : List ℕ) (cs : List Column) (c : Column) (rest : List ℕ) → ColumnsFrom bs cs → Begins ColumnFits column_bytes bs c rest → (Some c ≡ slice_get cs 0) × ColumnsFrom rest (drop 1 cs)
+from_some bs [] c rest h b = absurd (h.over c rest (record { fits = b.fits; bytes_are = b.bytes_are ∙ sym h.bytes_are }))
+from_some bs (d ∷ ds) c rest h b =
+    let o = column_one c d rest (flat_map column_bytes ds ++ h.behind) (b.bytes_are ∙ sym h.bytes_are ∙ append_assoc (column_bytes d) (flat_map column_bytes ds) h.behind) in
+    (ap Some o.0, record { behind = h.behind; bytes_are = sym o.1; fit = h.fit.1; over = h.over })
+
+pub from_end : (bs : List ℕ) (cs : List Column) → ColumnsFrom bs cs → NoneBegins ColumnFits column_bytes bs → ◌≡◌ {A = Option Column} None (slice_get cs 0)
+from_end bs [] h none = refl
+from_end bs (d ∷ ds) h none =
+    absurd (none d (flat_map column_bytes ds ++ h.behind) (record { fits = h.fit.0; bytes_are = sym (append_assoc (column_bytes d) (flat_map column_bytes ds) h.behind) ∙ h.bytes_are }))
 
 -- those behind the first ones
 pub columns_behind : (n : ℕ) (bs : List ℕ) (cs : List Column) → n ≤ length cs → ColumnsIn bs cs → ColumnsIn (drop (5 * n) bs) (drop n cs)

@@ -1,6 +1,6 @@
 -- The fields of a row, gone through one after the other.
 -- Assumes nothing.
-use Rattle.std.proofs.Common.{◌≡◌, ℕ, List, [], ◌∷◌, ◌++◌, length, drop, Some, None, Option, sym, refl, ap, ◌∙◌, subst, arith}
+use Rattle.std.proofs.Common.{◌≡◌, ℕ, suc, List, [], ◌∷◌, ◌++◌, length, drop, Some, None, Option, sym, refl, ap, ◌∙◌, subst, arith}
 use Rattle.std.proofs.lemmas.List.{append_assoc}
 use Rattle.std.specs.List.{flat_map, slice_get}
 use Rattle.mysql.specs.declared.bind.Column.{Column}
@@ -9,6 +9,13 @@ use Rattle.tape.specs.Format.{field_bytes, RowOf, RowContents, RowIn, ColumnsIn}
 use Rattle.tape.specs.Steps.{Begins, NoneBegins}
 use Rattle.tape.specs.Recordings.{later_fields}
 use Rattle.tape.specs.Unique.{field_one}
+
+-- one field for each column
+pub as_many_fields : (cs : List Column) (fs : List Field) → RowOf cs fs → length fs ≡ length cs
+as_many_fields [] [] h = refl
+as_many_fields [] (f ∷ fs) h = absurd h
+as_many_fields (c ∷ cs) [] h = absurd h
+as_many_fields (c ∷ cs) (f ∷ fs) h = ap suc (as_many_fields cs fs h.1)
 
 -- the first field, and those behind it
 pub first_field : (cs : List Column) (fs : List Field) (behind bytes : List ℕ) (c : Column) (f : Field) (rest : List ℕ) → RowOf cs fs → flat_map field_bytes fs ++ behind ≡ bytes

@@ -5,9 +5,10 @@ use Rattle.std.proofs.lemmas.List.{append_assoc}
 use Rattle.std.specs.List.{flat_map, slice_get}
 use Rattle.mysql.specs.declared.bind.Column.{Column}
 use Rattle.host.specs.Fields.{Field, FieldAt}
-use Rattle.tape.specs.Format.{Event, field_bytes, event_bytes, RowOf, EventOf, EventsOf, ColumnsIn}
+use Rattle.tape.specs.Format.{Event, field_bytes, event_bytes, RowOf, EventOf, EventsOf}
 use Rattle.tape.specs.Steps.{Begins, NoneBegins}
 use Rattle.tape.specs.Unique.{event_one}
+use Rattle.tape.specs.Views.{ColumnsFrom}
 use Rattle.tape.proofs.Rowed.{first_field, some_field}
 
 pub record Standing {Y : Type 0} (Fits : List Y → Type 0) (bytes_of : Y → List ℕ) (bytes behind : List ℕ) : Type 0 where
@@ -37,14 +38,14 @@ one_field_more (d ∷ cs) c f fs e h k = let same : c ≡ d = cc in (subst (λ (
 
 pub record FieldsWalked (cs : List Column) (bytes columns rest : List ℕ) : Type 0 where
   pub left : List Column
-  pub columns_in : ColumnsIn columns left
+  pub columns_from : ColumnsFrom columns left
   pub walk : Walk (RowOf cs) (RowOf left) field_bytes bytes rest
 
 pub fields_on : (cs : List Column) (bytes columns rest later : List ℕ) (c : Column) (f : Field) (after : List ℕ) (w : FieldsWalked cs bytes columns rest)
-    → (Some c ≡ slice_get w.left 0) × ColumnsIn later (drop 1 w.left) → Begins (FieldAt c.code) field_bytes rest f after → FieldsWalked cs bytes later after
+    → (Some c ≡ slice_get w.left 0) × ColumnsFrom later (drop 1 w.left) → Begins (FieldAt c.code) field_bytes rest f after → FieldsWalked cs bytes later after
 fields_on cs bytes columns rest later c f after w k b = record {
   left = drop 1 w.left;
-  columns_in = k.1;
+  columns_from = k.1;
   walk =
       walk_on w.walk f b.bytes_are (λ fs h. one_field_more w.left c f fs k.0 b.fits h)
       (λ behind s. let p = first_field w.left s.things behind rest c f after s.fits s.are k.0 b in record { things = drop 1 s.things; fits = p.1; are = p.2 });

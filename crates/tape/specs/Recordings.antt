@@ -1,5 +1,5 @@
 -- What a recording stands for, and how it is gone through.
-use Rattle.std.specs.Prelude.{◌≡◌, ℕ, List, [], ◌∷◌, ◌++◌, drop, Some, None, Ok, Err, Option, Result}
+use Rattle.std.specs.Prelude.{◌≡◌, ℕ, ◌+◌, List, [], ◌∷◌, ◌++◌, drop, Some, None, Ok, Err, Option, Result, ◌⊎◌}
 use Rattle.std.specs.List.{flat_map, slice_get}
 use Rattle.std.specs.Option.{option_map}
 use Rattle.mysql.specs.declared.fault.Fault.{Fault}
@@ -13,9 +13,11 @@ use Rattle.tape.specs.declared.recording.Columns.{Columns}
 use Rattle.tape.specs.declared.recording.Events.{Events}
 use Rattle.tape.specs.declared.recording.Fields.{Fields}
 use Rattle.mysql.specs.declared.bind.Column.{Column}
-use Rattle.host.specs.Fields.{Field}
-use Rattle.tape.specs.Format.{Event, row, Contents, field_bytes, event_bytes, ColumnsIn, Holds, RowContents, TapeOf, NoTape}
-use Rattle.tape.specs.Views.{field_of, RowShows, Next}
+use Rattle.host.specs.Fields.{Field, FieldAt}
+use Rattle.host.specs.Meanings.{ColumnFits}
+use Rattle.tape.specs.Format.{Event, row, Contents, field_bytes, event_bytes, column_bytes, EventOf, ColumnsIn, Holds, RowContents, TapeOf, NoTape}
+use Rattle.tape.specs.Steps.{Begins, NoneBegins}
+use Rattle.tape.specs.Views.{field_of, RowShows, Shows, Next}
 
 -- a recording's type has its contents
 abbrev pub contents : Recording → Contents
@@ -60,6 +62,33 @@ GivesEvent before e after = (t : Contents) → EventsLeft before t → Next t.co
 
 abbrev pub GivesField : Fields → Option View → Fields → Type 0
 GivesField before f after = (r : RowContents) → FieldsLeft before r → (option_map field_of f ≡ slice_get r.fields 0) × FieldsLeft after (later_fields r)
+
+-- the same step by the bytes, whatever they hold: a column that begins them comes, and those behind it are left; where none does, none comes,
+-- and all stays as it was
+abbrev pub StepsColumn : Columns → Option Column → Columns → Type 0
+StepsColumn before None after = NoneBegins ColumnFits column_bytes before.bytes.now × (after ≡ before)
+StepsColumn before (Some c) after = Begins ColumnFits column_bytes before.bytes.now c after.bytes.now
+
+-- an event comes only where one is counted, and is counted off
+abbrev pub StepsEvent : Events → Option EventView → Events → Type 0
+StepsEvent before None after =
+    ((cs : List Column) → ColumnsIn before.columns.now cs → (before.count ≡ 0) ⊎ NoneBegins (EventOf cs) event_bytes before.bytes.now) × (after ≡ before)
+StepsEvent before (Some v) after =
+    (after.columns ≡ before.columns) × (before.count ≡ after.count + 1)
+    × ((cs : List Column) → ColumnsIn before.columns.now cs → (e : Event) × Begins (EventOf cs) event_bytes before.bytes.now e after.bytes.now × Shows v cs e after.bytes.now)
+
+-- a field comes by the code of the column that begins the bytes of the columns
+abbrev pub StepsField : Fields → Option View → Fields → Type 0
+StepsField before None after =
+    ((c : Column) (later : List ℕ) → Begins ColumnFits column_bytes before.rest.columns.now c later → NoneBegins (FieldAt c.code) field_bytes before.rest.bytes.now) × (after ≡ before)
+StepsField before (Some v) after =
+    (c : Column) × Begins ColumnFits column_bytes before.rest.columns.now c after.rest.columns.now
+    × Begins (FieldAt c.code) field_bytes before.rest.bytes.now (field_of v) after.rest.bytes.now
+
+-- a step, by what is left and by the bytes
+pub record Both {S X : Type 0} (Gives Steps : S → Option X → S → Type 0) (before : S) (x : Option X) (after : S) : Type 0 where
+  pub gives : Gives before x after
+  pub steps : Steps before x after
 
 -- the next event, which is not taken off
 abbrev pub Peeks : Events → Option EventView → Type 0

@@ -1,6 +1,6 @@
 -- What the code's references into a tape's bytes stand for.
-use Rattle.std.specs.Prelude.{◌≡◌, ℕ, List, [], ◌∷◌, Some, None, Option}
-use Rattle.std.specs.List.{flat_map}
+use Rattle.std.specs.Prelude.{◌≡◌, ℕ, List, [], ◌∷◌, ◌++◌, Some, None, Option}
+use Rattle.std.specs.List.{flat_map, AllByRecursion}
 use Rattle.std.specs.Borrow.{Bor}
 use Rattle.tape.specs.declared.field.Field.{Field as View}
 use Rattle.tape.specs.declared.field.Field.TheVariants as view
@@ -9,7 +9,8 @@ use Rattle.tape.specs.declared.event.Event.{Event as EventView}
 use Rattle.tape.specs.declared.event.Event.TheVariants as view_event
 use Rattle.mysql.specs.declared.bind.Column.{Column}
 use Rattle.host.specs.Fields.{Field, null, held}
-use Rattle.tape.specs.Format.{Event, row, failure, event_bytes, EventOf, RowContents, RowIn}
+use Rattle.host.specs.Meanings.{ColumnFits}
+use Rattle.tape.specs.Format.{Event, row, failure, column_bytes, event_bytes, EventOf, RowContents, RowIn}
 use Rattle.tape.specs.Steps.{Begins, NoneBegins}
 
 -- a field, by the bytes that it refers to
@@ -38,3 +39,22 @@ Next cs (e ∷ es) (Some v) = Shows v cs e (flat_map event_bytes es)
 abbrev pub TakesEvent : List Column → List ℕ → Option (EventView × Bor (List ℕ)) → Type 0
 TakesEvent cs bytes None = NoneBegins (EventOf cs) event_bytes bytes
 TakesEvent cs bytes (Some p) = (e : Event) × Begins (EventOf cs) event_bytes bytes e p.1.now × Shows p.0 cs e p.1.now
+
+-- the columns that begin bytes, as far as they go; what is behind the last one begins with none
+pub record ColumnsFrom (bytes : List ℕ) (cs : List Column) : Type 0 where
+  pub behind : List ℕ
+  pub bytes_are : flat_map column_bytes cs ++ behind ≡ bytes
+  pub fit : AllByRecursion ColumnFits cs
+  pub over : NoneBegins ColumnFits column_bytes behind
+
+-- a row refers to these bytes of columns, and to the bytes after the first one
+abbrev pub Refers : EventView → (columns bytes : List ℕ) → Event → Type 0
+Refers (view_event.Row r) columns bytes (row fs) = (r.columns.now ≡ columns) × (0 ∷ r.bytes.now ≡ bytes)
+Refers (view_event.Row r) columns bytes (failure m) = ⊥
+Refers (view_event.Failure n) columns bytes (row fs) = ⊥
+Refers (view_event.Failure n) columns bytes (failure m) = n ≡ m
+
+-- the same by any bytes of columns
+abbrev pub TakesEventOf : (columns : List ℕ) → List Column → List ℕ → Option (EventView × Bor (List ℕ)) → Type 0
+TakesEventOf columns cs bytes None = NoneBegins (EventOf cs) event_bytes bytes
+TakesEventOf columns cs bytes (Some p) = (e : Event) × Begins (EventOf cs) event_bytes bytes e p.1.now × Refers p.0 columns bytes e

@@ -1,12 +1,12 @@
 //! A recorded result, and how it is gone through: its columns, its events, and the fields of a row, one after the other.
-ghost use Rattle.std.specs.Prelude.{◌≡◌, ◌*◌, ◌≤◌, List, length};
+ghost use Rattle.std.specs.Prelude.{◌≡◌, ◌*◌, ◌/◌, ◌^◌, ◌<◌, ◌≤◌, List, length};
 ghost use Rattle.std.specs.List.{flat_map, slice_get, AllByRecursion};
 ghost use Rattle.std.specs.Iterator.{at_most};
 ghost use Rattle.mysql.specs.declared.bind.Column.{Column as Listed};
 ghost use Rattle.tape.specs.Format.{Contents, event_bytes, ColumnsIn, EventsOf, Holds, RowContents};
 ghost use Rattle.tape.specs.Steps.{Passes};
 ghost use Rattle.tape.specs.Views.{RowShows};
-ghost use Rattle.tape.specs.Recordings.{contents, Read, Opened, OneReading, ColumnsLeft, EventsLeft, FieldsLeft, GivesColumn, GivesEvent, GivesField, Peeks, PassesRow, Stops};
+ghost use Rattle.tape.specs.Recordings.{contents, Read, Opened, OneReading, ColumnsLeft, EventsLeft, FieldsLeft, GivesColumn, GivesEvent, GivesField, StepsColumn, StepsEvent, StepsField, Both, Peeks, PassesRow, Stops};
 
 use crate::event::{Event, Row};
 use crate::field::Field;
@@ -63,7 +63,8 @@ impl<'a> Recording<'a> {
 
     /// Its columns, one after the other.
     pub fn columns(&self) -> Columns<'a>
-        ensures { ColumnsLeft result (contents self.now).columns }
+        ensures all { ColumnsLeft result (contents self.now).columns }
+        ensures few { length (contents self.now).columns < 2 ^ 64 }
     {
         Columns {
             bytes: self.columns,
@@ -72,7 +73,8 @@ impl<'a> Recording<'a> {
 
     /// Its events, one after the other.
     pub fn events(&self) -> Events<'a>
-        ensures { EventsLeft result (contents self.now) }
+        ensures all { EventsLeft result (contents self.now) }
+        ensures few { length (contents self.now).events < 65536 }
     {
         Events {
             columns: self.columns,
@@ -85,7 +87,9 @@ impl<'a> Recording<'a> {
 impl<'a> Row<'a> {
     /// Its fields, one after the other.
     pub fn fields(&self) -> Fields<'a>
-        ensures { (r : RowContents) → RowShows self.now r → FieldsLeft result r }
+        ensures all { (r : RowContents) → RowShows self.now r → FieldsLeft result r }
+        ensures few { (r : RowContents) → RowShows self.now r → length r.fields < 2 ^ 64 }
+        ensures whole { result.rest ≡ self.now }
     {
         Fields { rest: *self }
     }
@@ -121,9 +125,9 @@ impl Columns<'_> {
 impl Iterator for Columns<'_> {
     type Item = Column;
 
-    ghost next_gives = { GivesColumn };
+    ghost next_gives = { Both GivesColumn StepsColumn };
 
-    ghost remaining = { λ s. at_most (length s.bytes.now) };
+    ghost remaining = { λ s. at_most (length s.bytes.now / 5) };
 
     fn next(&mut self) -> Option<Column> {
         let (column, rest) = take_column(self.bytes)?;
@@ -205,7 +209,7 @@ impl<'a> Events<'a> {
 impl<'a> Iterator for Events<'a> {
     type Item = Event<'a>;
 
-    ghost next_gives = { GivesEvent };
+    ghost next_gives = { Both GivesEvent StepsEvent };
 
     ghost remaining = { λ s. at_most s.count };
 
@@ -227,9 +231,9 @@ pub struct Fields<'a> {
 impl<'a> Iterator for Fields<'a> {
     type Item = Field<'a>;
 
-    ghost next_gives = { GivesField };
+    ghost next_gives = { Both GivesField StepsField };
 
-    ghost remaining = { λ s. at_most (length s.rest.columns.now) };
+    ghost remaining = { λ s. at_most (length s.rest.columns.now / 5) };
 
     fn next(&mut self) -> Option<Field<'a>> {
         let Row { columns, bytes } = self.rest;

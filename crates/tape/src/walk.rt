@@ -6,7 +6,7 @@ ghost use Rattle.host.specs.Fields.{FieldAt};
 ghost use Rattle.host.specs.Meanings.{ColumnFits};
 ghost use Rattle.tape.specs.Format.{two, four, tag, field_bytes, column_bytes, RowOf, ColumnsIn};
 ghost use Rattle.tape.specs.Steps.{Takes, Passes};
-ghost use Rattle.tape.specs.Views.{field_of, TakesEvent};
+ghost use Rattle.tape.specs.Views.{field_of, ColumnsFrom, TakesEvent, TakesEventOf};
 
 use crate::event::{Event, Row};
 use crate::field::Field;
@@ -83,9 +83,9 @@ pub fn take_column(bytes: &[u8]) -> Option<(Column, &[u8])>
 }
 
 /// The bytes after the fields of a row with these columns.
-#[inline(always)]
+#[inline(never)]
 fn skip_fields<'a>(columns: &[u8], bytes: &'a [u8]) -> Option<&'a [u8]>
-    ensures { (cs : List Listed) → ColumnsIn columns.now cs → Passes (RowOf cs) (flat_map field_bytes) bytes.now result }
+    ensures { (cs : List Listed) → ColumnsFrom columns.now cs → Passes (RowOf cs) (flat_map field_bytes) bytes.now result }
 {
     let mut rest = bytes;
     for column in (Columns { bytes: columns }) {
@@ -96,7 +96,8 @@ fn skip_fields<'a>(columns: &[u8], bytes: &'a [u8]) -> Option<&'a [u8]>
 
 /// An event of a recording with these columns. The bytes 0 and 1 are the format's.
 pub fn take_event<'a>(columns: &'a [u8], bytes: &'a [u8]) -> Option<(Event<'a>, &'a [u8])>
-    ensures { (cs : List Listed) → ColumnsIn columns.now cs → TakesEvent cs bytes.now result }
+    ensures event { (cs : List Listed) → ColumnsIn columns.now cs → TakesEvent cs bytes.now result }
+    ensures any { (cs : List Listed) → ColumnsFrom columns.now cs → TakesEventOf columns.now cs bytes.now result }
 {
     match bytes {
         [0, bytes @ ..] => {

@@ -1,6 +1,6 @@
 -- A row's fields, taken off its bytes by the codes that its places ask for.
 -- Assumes nothing.
-use Rattle.std.proofs.Common.{◌≡◌, ℕ, zero, suc, ◌+◌, ◌<◌, ◌≤◌, true, eqb, List, [], ◌∷◌, ◌++◌, Some, None, Option, length, get_or, drop, sym, refl, ap, ◌∙◌, subst, arith}
+use Rattle.std.proofs.Common.{◌≡◌, ℕ, zero, suc, ◌+◌, ◌<◌, ◌≤◌, true, eqb, List, [], ◌∷◌, ◌++◌, Some, None, Option, length, get_or, drop, sym, ap, ◌∙◌, subst, arith}
 use Rattle.std.specs.Borrow.{Bor}
 use Rattle.std.specs.List.{flat_map}
 use Rattle.std.specs.Option.{unwrap_or}
@@ -11,9 +11,10 @@ use Rattle.host.specs.declared.records.BindRecord.{BindRecord}
 use Rattle.host.specs.Fields.{Field, null, FieldAt}
 use Rattle.host.specs.Meanings.{no_column}
 use Rattle.host.specs.Calls.{no_bind}
+use Rattle.tape.proofs.Rowed.{as_many_fields}
 use Rattle.tape.specs.declared.field.Field.{Field as View}
 use Rattle.tape.specs.declared.event.Row.{Row}
-use Rattle.tape.specs.Format.{field_bytes, RowOf, RowContents}
+use Rattle.tape.specs.Format.{field_bytes, RowContents}
 use Rattle.tape.specs.Steps.{Begins, Takes}
 use Rattle.tape.specs.Unique.{field_one, row_one}
 use Rattle.tape.specs.Views.{field_of, RowShows}
@@ -34,12 +35,6 @@ code_at cs [] e k l = absurd (omega arith)
 code_at [] (b ∷ bs) e k l = cc
 code_at (c ∷ cs) (b ∷ bs) e zero l = eqb-true b.code c.code (and_parts (eqb b.code c.code) (own_codes cs bs) e).0
 code_at (c ∷ cs) (b ∷ bs) e (suc k) l = code_at cs bs (and_parts (eqb b.code c.code) (own_codes cs bs) e).1 k (omega arith)
-
-as_many_fields : (cs : List Column) (fs : List Field) → RowOf cs fs → length fs ≡ length cs
-as_many_fields [] [] h = refl
-as_many_fields [] (f ∷ fs) h = absurd h
-as_many_fields (c ∷ cs) [] h = absurd h
-as_many_fields (c ∷ cs) (f ∷ fs) h = ap suc (as_many_fields cs fs h.1)
 
 module _ (row : Row) (bs : List BindRecord) (asked : Asked row bs) (r : RowContents) (shows : RowShows row r) where
   same : asked.contents ≡ r

@@ -11,6 +11,6 @@ returns c =
     record {
       contents = t;
       is_tape = c.in_ok-recording.ensures.opened;
-      columns = c.len.ensures.counted t.columns c.columns.ensures;
-      events = count_from_yields_List c.events.result c.count.result c.count.ensures.ran (events_yielded c.events.result t c.events.ensures) ∙ length-map t.events one;
+      columns = c.len.ensures.counted t.columns c.columns.ensures.all;
+      events = count_from_yields_List c.events.result c.count.result c.count.ensures.ran (events_yielded c.events.result t c.events.ensures.all) ∙ length-map t.events one;
     }

@@ -1,11 +1,13 @@
-use Rattle.std.proofs.Common.{◌∙◌}
+use Rattle.std.proofs.Common.{refl}
 use Rattle.tape.proofs.Columned.{column_some, column_end}
 use Rattle.tape.proofs.recording.ColumnsIterator.next.Goals as goal
 
 pub returns-in_err-column-clause-steps : goal.returns-in_err-column-clause-steps
-returns-in_err-column-clause-steps c = λ cs h.
-    let e = column_end c.args.self.now.bytes.now cs h c.in_err-column.ensures in
-    (c.from_residual.ensures ∙ e.0, e.1)
+returns-in_err-column-clause-steps c =
+    let none = c.in_err-column.ensures in
+    rw c.from_residual.ensures (record { gives = λ cs h. column_end c.args.self.now.bytes.now cs h none; steps = (none, refl) })
 
 pub returns-clause-steps : goal.returns-clause-steps
-returns-clause-steps c = λ cs h. column_some c.args.self.now.bytes.now cs c.in_ok-column.column c.in_ok-column.rest.now h c.in_ok-column.ensures
+returns-clause-steps c =
+    let begins = c.in_ok-column.ensures in
+    record { gives = λ cs h. column_some c.args.self.now.bytes.now cs c.in_ok-column.column c.in_ok-column.rest.now h begins; steps = begins }

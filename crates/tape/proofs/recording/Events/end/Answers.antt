@@ -19,7 +19,7 @@ returns-in_err-rest c = λ cs h.
     let k : s.count - c.loop.counter ≡ suc m = omega arith in
     let w = subst (λ (m : ℕ). Walk (EventsOf cs s.count) (EventsOf cs m) event_bytes s.bytes.now bs) k (c.loop.invariant cs h) in
     subst (Passes (EventsOf cs s.count) (flat_map event_bytes) s.bytes.now) (sym c.from_residual.ensures)
-    (events_cut cs s.count m s.bytes.now bs w (c.in_err-rest.ensures cs h))
+    (events_cut cs s.count m s.bytes.now bs w (c.in_err-rest.ensures.event cs h))
 
 pub loop-preserved : goal.loop-preserved
 loop-preserved c = λ cs h.
@@ -28,7 +28,7 @@ loop-preserved c = λ cs h.
     let m = s.count - (c.loop.counter + 1) in
     let k : s.count - c.loop.counter ≡ suc m = omega arith in
     let w = subst (λ (m : ℕ). Walk (EventsOf cs s.count) (EventsOf cs m) event_bytes s.bytes.now bs) k (c.loop.invariant cs h) in
-    let p = c.in_ok-rest.ensures cs h in
+    let p = c.in_ok-rest.ensures.event cs h in
     events_on cs s.count m s.bytes.now bs p.0 c.in_ok-rest.field-0-1.now w p.1
 
 pub returns : goal.returns

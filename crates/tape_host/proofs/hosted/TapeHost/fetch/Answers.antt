@@ -48,7 +48,7 @@ returns-in-Failure c =
     let n = c.in-Failure.number in
     let f = failure_next (columns_of t) (left_of t).events n
     (subst (λ (e : EventView). Next (columns_of t) (left_of t).events (Some e)) c.in-Failure.is (c.in-Some.ensures (left_of t) (left_holds t))) in
-    let left = subst (λ (es : List Event). EventsLeft after (record { columns = columns_of t; events = drop 1 es })) f.1 (c.next-event.ensures.steps (left_of t) (left_holds t)).1 in
+    let left = subst (λ (es : List Event). EventsLeft after (record { columns = columns_of t; events = drop 1 es })) f.1 (c.next-event.ensures.steps.gives (left_of t) (left_holds t)).1 in
     let small : n < 65536 = search rules in
     inr (failure_came t c.args.reports.now c.args.arena.now (sym c.if-not-can_fetch.ensures) n f.0 f.1 _
     (means_is _ (record { columns = columns_of t; events = f.0 }) None (bound_of t) n left refl refl (omega arith)))

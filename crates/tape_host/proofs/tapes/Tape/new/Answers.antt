@@ -8,7 +8,7 @@ pub invariant_of-result : goal.invariant_of-result
 invariant_of-result c =
     let r = c.in_ok-recording.recording in
     let t = contents r in
-    let h = c.events-events.ensures in
+    let h = c.events-events.ensures.all in
     let n = c.len.ensures.counted t.columns (c.columns.ensures t h) in
     let bytes = columns_count c.events-events.result.columns.now t.columns h.columns_in in
     record {
@@ -21,4 +21,4 @@ invariant_of-result c =
     }
 
 pub returns : goal.returns
-returns c = new_holds c.args.bytes.now _ (contents c.in_ok-recording.recording) c.events-events.ensures refl refl refl c.in_ok-recording.ensures.opened
+returns c = new_holds c.args.bytes.now _ (contents c.in_ok-recording.recording) c.events-events.ensures.all refl refl refl c.in_ok-recording.ensures.opened
