@@ -5,9 +5,10 @@ use Rattle.std.specs.List.{flat_map}
 use Rattle.mysql.specs.declared.bind.Column.{Column}
 use Rattle.tape.specs.declared.event.Event.{Event as EventView}
 use Rattle.tape.specs.declared.recording.Events.{Events}
-use Rattle.tape.specs.Format.{Event, event_bytes, EventOf, ColumnsIn, EventsIn}
+use Rattle.tape.specs.Format.{Event, event_bytes, EventOf, EventsIn}
 use Rattle.tape.specs.Steps.{Begins, NoneBegins}
-use Rattle.tape.specs.Views.{Shows, Next}
+use Rattle.tape.specs.Views.{Shows, Next, ColumnsFrom}
+use Rattle.tape.proofs.Columned.{all_from}
 use Rattle.tape.specs.Recordings.{GivesEvent, StepsEvent, Both}
 use Rattle.tape.specs.Unique.{event_one}
 
@@ -27,10 +28,10 @@ no_event cs [] bytes n h none = (refl, h)
 no_event cs (e ∷ es) bytes n h none =
     absurd (⊎_elim (λ z. omega (arith, z, h.events_of.0)) (λ k. k e (flat_map event_bytes es) (record { fits = h.events_of.1.0; bytes_are = h.bytes_are })) none)
 
-pub no_step : (s : Events) → ((cs : List Column) → ColumnsIn s.columns.now cs → (s.count ≡ 0) ⊎ NoneBegins (EventOf cs) event_bytes s.bytes.now) → Both GivesEvent StepsEvent s None s
+pub no_step : (s : Events) → ((cs : List Column) → ColumnsFrom s.columns.now cs → (s.count ≡ 0) ⊎ NoneBegins (EventOf cs) event_bytes s.bytes.now) → Both GivesEvent StepsEvent s None s
 no_step s none = record {
   gives = λ t h.
-      let k = no_event t.columns t.events s.bytes.now s.count h.events_in (none t.columns h.columns_in) in
+      let k = no_event t.columns t.events s.bytes.now s.count h.events_in (none t.columns (all_from s.columns.now t.columns h.columns_in)) in
       (k.0, record { columns_in = h.columns_in; events_in = k.1 });
   steps = (none, refl);
 }

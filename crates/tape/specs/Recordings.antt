@@ -17,7 +17,7 @@ use Rattle.host.specs.Fields.{Field, FieldAt}
 use Rattle.host.specs.Meanings.{ColumnFits}
 use Rattle.tape.specs.Format.{Event, row, Contents, field_bytes, event_bytes, column_bytes, EventOf, ColumnsIn, Holds, RowContents, TapeOf, NoTape}
 use Rattle.tape.specs.Steps.{Begins, NoneBegins}
-use Rattle.tape.specs.Views.{field_of, RowShows, Shows, Next}
+use Rattle.tape.specs.Views.{field_of, RowShows, Next, ColumnsFrom, Refers}
 
 -- a recording's type has its contents
 abbrev pub contents : Recording → Contents
@@ -72,10 +72,10 @@ StepsColumn before (Some c) after = Begins ColumnFits column_bytes before.bytes.
 -- an event comes only where one is counted, and is counted off
 abbrev pub StepsEvent : Events → Option EventView → Events → Type 0
 StepsEvent before None after =
-    ((cs : List Column) → ColumnsIn before.columns.now cs → (before.count ≡ 0) ⊎ NoneBegins (EventOf cs) event_bytes before.bytes.now) × (after ≡ before)
+    ((cs : List Column) → ColumnsFrom before.columns.now cs → (before.count ≡ 0) ⊎ NoneBegins (EventOf cs) event_bytes before.bytes.now) × (after ≡ before)
 StepsEvent before (Some v) after =
     (after.columns ≡ before.columns) × (before.count ≡ after.count + 1)
-    × ((cs : List Column) → ColumnsIn before.columns.now cs → (e : Event) × Begins (EventOf cs) event_bytes before.bytes.now e after.bytes.now × Shows v cs e after.bytes.now)
+    × ((cs : List Column) → ColumnsFrom before.columns.now cs → (e : Event) × Begins (EventOf cs) event_bytes before.bytes.now e after.bytes.now × Refers v before.columns.now before.bytes.now e)
 
 -- a field comes by the code of the column that begins the bytes of the columns
 abbrev pub StepsField : Fields → Option View → Fields → Type 0

@@ -54,7 +54,7 @@ Refers (view_event.Row r) columns bytes (failure m) = ⊥
 Refers (view_event.Failure n) columns bytes (row fs) = ⊥
 Refers (view_event.Failure n) columns bytes (failure m) = n ≡ m
 
--- the same by any bytes of columns
+-- an event is taken by the columns that begin any bytes of columns; none is, where none begins the bytes
 abbrev pub TakesEventOf : (columns : List ℕ) → List Column → List ℕ → Option (EventView × Bor (List ℕ)) → Type 0
 TakesEventOf columns cs bytes None = NoneBegins (EventOf cs) event_bytes bytes
 TakesEventOf columns cs bytes (Some p) = (e : Event) × Begins (EventOf cs) event_bytes bytes e p.1.now × Refers p.0 columns bytes e
